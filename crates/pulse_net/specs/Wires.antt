@@ -1,8 +1,10 @@
 -- What each wire of a netlist carries: one fold, whatever it is that the wires carry.
-use Rattle.std.specs.Prelude.{ℕ, ◌+◌, List, [], ◌∷◌, ◌++◌, map, Option, Some, None, if◌then◌else◌, ◌==◌, unwrap_or}
+use Rattle.std.specs.Prelude.{ℕ, ◌+◌, List, [], ◌∷◌, ◌++◌, map, Option, Some, None, if◌then◌else◌, ◌==◌, unwrap_or, flat_map}
 use Rattle.cell_lib.specs.declared.cell.Cell.{Cell}
 use Rattle.pulse_net.specs.declared.net.Element.{Element}
 use Rattle.pulse_net.specs.declared.net.Element.TheVariants.{Clocked, Split}
+use Rattle.pulse_net.specs.declared.net.Outlet.{Outlet}
+use Rattle.pulse_net.specs.declared.net.Outlet.TheVariants.{Zero, One, Wire}
 use Rattle.pulse_net.specs.declared.net.PulseNet.{PulseNet}
 
 -- wires in the order in which they are made, each with what it carries
@@ -43,6 +45,28 @@ abbrev pub wires_of : {A : Type 0} → A → (ℕ → A) → (Cell → ℕ → L
 wires_of absent at_input at_cell net =
     after_elements absent at_cell (input_wires at_input 0 net.inputs) net.elements
 
+-- an input's stage, and a cell's
+abbrev pub input_stage : ℕ → ℕ
+input_stage input = 0
+
+abbrev pub cell_stage : Cell → ℕ → List ℕ → ℕ
+cell_stage cell stage pins = stage
+
 -- the stage of each wire: 0 from an input, the cell's from a clocked cell, its source's through a splitter
 abbrev pub stages_of : PulseNet → Wires ℕ
-stages_of net = wires_of 0 (λ _. 0) (λ cell stage pins. stage) net
+stages_of net = wires_of 0 input_stage cell_stage net
+
+-- the wires that an element uses, from the left
+abbrev pub element_uses : Element → List ℕ
+element_uses (Clocked cell stage pins out) = pins
+element_uses (Split from left right) = from ∷ []
+
+-- the wire that an output uses, if it isn't constant
+abbrev pub outlet_uses : Outlet → List ℕ
+outlet_uses Zero = []
+outlet_uses One = []
+outlet_uses (Wire wire) = wire ∷ []
+
+-- the wires that are used by elements and outputs, in order
+abbrev pub uses_of : PulseNet → List ℕ
+uses_of net = flat_map element_uses net.elements ++ flat_map outlet_uses net.outputs
