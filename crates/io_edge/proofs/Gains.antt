@@ -1,5 +1,5 @@
 -- A sink that takes the first n bytes, and then k of the rest, has taken the first n + k.
-use Rattle.std.proofs.Common.{◌≡◌, ℕ, ◌+◌, List, take, drop, Option, Some, None, refl, ap}
+use Rattle.std.proofs.Common.{ℕ, ◌+◌, List, take, drop, Option, Some, None, refl, ap}
 use Rattle.std.proofs.lemmas.List.{append_assoc}
 use Rattle.std.proofs.Math.Seq.{take-add}
 use Rattle.io_edge.specs.Sink.{Gains}

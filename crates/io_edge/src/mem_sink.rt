@@ -28,8 +28,14 @@ impl Model for MemSink {
     ghost Value = { MemSinkState };
 
     ghost view = { λ s. record {
-        taken = s.taken.items; room = s.room; piece = s.piece; fails = s.fails.items; writes = s.writes;
-        faults = s.faults; stalls = s.stalls } };
+      taken = s.taken.items;
+      room = s.room;
+      piece = s.piece;
+      fails = s.fails.items;
+      writes = s.writes;
+      faults = s.faults;
+      stalls = s.stalls;
+    } };
 
     // A write takes no memory, since all the room is there from the start.
     ghost invariant = { λ s. (length s.taken.items ≤ s.room) × (s.room ≤ vec_capacity s.taken) };
@@ -39,10 +45,22 @@ impl MemSink {
     /// A sink with room for `room` bytes in all, which takes at most `piece` of them at a write. The writes whose
     /// numbers, counted from 0, stand in `fails` fail. All memory is taken here. Each write looks through `fails`:
     /// keep it short.
-    pub fn new(alloc: Global, room: usize, piece: usize, fails: Vec<u64>) -> Result<MemSink, NoMemory>
+    pub fn new(
+        alloc: Global,
+        room: usize,
+        piece: usize,
+        fails: Vec<u64>,
+    ) -> Result<MemSink, NoMemory>
         requires { 1 ≤ piece }
         ensures { IfOk result (λ sink. sink ≡ record {
-            taken = []; room = room; piece = piece; fails = fails.items; writes = 0; faults = 0; stalls = 0 }) }
+          taken = [];
+          room = room;
+          piece = piece;
+          fails = fails.items;
+          writes = 0;
+          faults = 0;
+          stalls = 0;
+        }) }
     {
         Ok(MemSink {
             taken: Vec::with_capacity(alloc, room)?,
@@ -95,7 +113,9 @@ impl Sink for MemSink {
             self.faults = one_more(self.faults);
             return Err(Failed);
         }
-        let size = bytes.len().min(self.piece.min(self.room - self.taken.len()));
+        let size = bytes
+            .len()
+            .min(self.piece.min(self.room - self.taken.len()));
         self.taken.extend_from_slice(&bytes[..size]).unwrap();
         self.stalls = stalls_counted(self.stalls, bytes.len(), size);
         Ok(size)

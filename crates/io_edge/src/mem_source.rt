@@ -27,7 +27,12 @@ impl Model for MemSource {
     ghost Value = { MemSourceState };
 
     ghost view = { λ s. record {
-        left = drop s.at s.bytes.items; piece = s.piece; fails = s.fails.items; reads = s.reads; faults = s.faults } };
+      left = drop s.at s.bytes.items;
+      piece = s.piece;
+      fails = s.fails.items;
+      reads = s.reads;
+      faults = s.faults;
+    } };
 
     ghost invariant = { λ s. (s.at ≤ length s.bytes.items) × (1 ≤ s.piece) };
 }
@@ -38,7 +43,12 @@ impl MemSource {
     pub fn new(bytes: Vec<u8>, piece: usize, fails: Vec<u64>) -> MemSource
         requires { 1 ≤ piece }
         ensures { result ≡ record {
-            left = bytes.items; piece = piece; fails = fails.items; reads = 0; faults = 0 } }
+          left = bytes.items;
+          piece = piece;
+          fails = fails.items;
+          reads = 0;
+          faults = 0;
+        } }
     {
         MemSource {
             bytes,

@@ -46,7 +46,11 @@ const PIECE: usize = 4096;
 
 /// Reads the source to its end, in at most `limit + 1` reads. A text of more than `limit` bytes is `TooLong`,
 /// and then `limit + 1` bytes of it are gone. The memory grows by doubling, to `limit + 1` bytes at most.
-pub fn read_all<S: Source>(alloc: Global, src: &mut S, limit: usize) -> Result<Vec<u8>, ReadAllFault>
+pub fn read_all<S: Source>(
+    alloc: Global,
+    src: &mut S,
+    limit: usize,
+) -> Result<Vec<u8>, ReadAllFault>
     ensures within { IfOk result (λ all. length all.items ≤ limit) }
     ensures whole { IfOk result (λ all. IfSome (S.left src.old) (λ text. all.items ≡ text)) }
     ensures leaves { IfSome (S.left src.old) (λ text. LeavesOf limit text result (S.left src.new)) }

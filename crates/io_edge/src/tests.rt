@@ -27,8 +27,16 @@ fn a_text_comes_in_and_goes_out_whole_in_pieces_of_any_size(rt: HostRuntime) -> 
 fn a_read_that_fails_in_mid_stream_keeps_the_rest(rt: HostRuntime) -> Result<(), Fail> {
     let alloc = rt.alloc();
     let mut source = MemSource::new(TEXT.to_vec(alloc)?, 10, [1].to_vec(alloc)?);
-    assert!(rt; matches!(read_all(alloc, &mut source, 26), Err(ReadAllFault::ReadFault)));
-    assert_eq!(rt; read_all(alloc, &mut source, 26)?.as_slice(), b"klmnopqrstuvwxyz".as_slice());
+    assert!(rt;
+        matches!(
+            read_all(alloc, &mut source, 26),
+            Err(ReadAllFault::ReadFault)
+        )
+    );
+    assert_eq!(rt;
+        read_all(alloc, &mut source, 26)?.as_slice(),
+        b"klmnopqrstuvwxyz".as_slice()
+    );
     Ok(())
 }
 
@@ -37,7 +45,10 @@ fn a_text_is_too_long_from_one_byte_above_the_limit(rt: HostRuntime) -> Result<(
     let alloc = rt.alloc();
     let mut source = MemSource::new(TEXT.to_vec(alloc)?, 10, Vec::new(alloc));
     assert!(rt; matches!(read_all(alloc, &mut source, 24), Err(ReadAllFault::TooLong)));
-    assert_eq!(rt; read_all(alloc, &mut source, 1)?.as_slice(), b"z".as_slice());
+    assert_eq!(rt;
+        read_all(alloc, &mut source, 1)?.as_slice(),
+        b"z".as_slice()
+    );
     Ok(())
 }
 
@@ -45,7 +56,10 @@ fn a_text_is_too_long_from_one_byte_above_the_limit(rt: HostRuntime) -> Result<(
 fn a_write_that_fails_in_mid_stream_keeps_the_front(rt: HostRuntime) -> Result<(), Fail> {
     let alloc = rt.alloc();
     let mut sink = MemSink::new(alloc, 26, 10, [1].to_vec(alloc)?)?;
-    assert_eq!(rt; write_all_of(&mut sink, TEXT), Err(WriteFault { taken: 10 }));
+    assert_eq!(rt;
+        write_all_of(&mut sink, TEXT),
+        Err(WriteFault { taken: 10 })
+    );
     assert_eq!(rt; sink.bytes(), b"abcdefghij".as_slice());
     Ok(())
 }
@@ -54,7 +68,10 @@ fn a_write_that_fails_in_mid_stream_keeps_the_front(rt: HostRuntime) -> Result<(
 fn a_sink_with_too_little_room_stalls_when_it_is_full(rt: HostRuntime) -> Result<(), Fail> {
     let alloc = rt.alloc();
     let mut sink = MemSink::new(alloc, 12, 10, Vec::new(alloc))?;
-    assert_eq!(rt; write_all_of(&mut sink, TEXT), Err(WriteFault { taken: 12 }));
+    assert_eq!(rt;
+        write_all_of(&mut sink, TEXT),
+        Err(WriteFault { taken: 12 })
+    );
     assert_eq!(rt; sink.bytes(), b"abcdefghijkl".as_slice());
     Ok(())
 }
@@ -69,6 +86,9 @@ fn streams_of_std_are_read_and_written_whole(rt: HostRuntime) -> Result<(), Fail
     write_all_of(&mut StdSink::new(&mut written), &read)?;
     assert_eq!(rt; written.as_slice(), TEXT);
     let mut short = [0; 3];
-    assert_eq!(rt; write_all_of(&mut StdSink::new(short.as_mut_slice()), TEXT), Err(WriteFault { taken: 3 }));
+    assert_eq!(rt;
+        write_all_of(&mut StdSink::new(short.as_mut_slice()), TEXT),
+        Err(WriteFault { taken: 3 })
+    );
     Ok(())
 }

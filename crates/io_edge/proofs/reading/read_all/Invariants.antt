@@ -6,7 +6,7 @@ abbrev pub invariant-loop-piece : goal.invariant-loop-piece
 invariant-loop-piece g l = record {
   not_over : vec_len l.all ≤ l.limit + 1;
   whole : text_of l.all.items (g.S.Source.left l.src) ≡ g.S.Source.left l.initial.src;
-  faults : g.S.Source.faults l.initial.src ≤ g.S.Source.faults l.src
+  faults : g.S.Source.faults l.initial.src ≤ g.S.Source.faults l.src;
 }
 
 abbrev pub decreases-loop-piece : goal.decreases-loop-piece

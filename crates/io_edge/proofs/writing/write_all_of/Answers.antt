@@ -13,4 +13,5 @@ loop-taken-preserved g c =
       faults = omega arith;
       stalls = omega arith;
       size = cc;
-      untouched = λ none. absurd (omega arith) }
+      untouched = λ none. absurd (omega arith);
+    }

@@ -9,7 +9,7 @@ invariant-loop-taken g l = record {
   faults : g.K.Sink.faults l.initial.sink ≤ g.K.Sink.faults l.sink;
   stalls : g.K.Sink.stalls l.initial.sink ≤ g.K.Sink.stalls l.sink;
   size : g.K.Sink.size l.sink ≡ g.K.Sink.size l.initial.sink;
-  untouched : l.taken ≡ 0 → l.sink ≡ l.initial.sink
+  untouched : l.taken ≡ 0 → l.sink ≡ l.initial.sink;
 }
 
 abbrev pub decreases-loop-taken : goal.decreases-loop-taken
