@@ -99,7 +99,8 @@ impl Sink for MemSink {
 
         // The trait's clauses, which follow from these.
         ensures within { IfOk result (λ k. k ≤ length bytes.now) }
-        ensures moved { IfOk result (λ k. Gains (Some self.old.taken) (Some self.new.taken) (take k bytes.now)) }
+        ensures moved { IfOk result (λ k.
+            Gains (Some self.old.taken) (Some self.new.taken) (take k bytes.now)) }
         ensures stalled { IfOk result (CountsStall self.old.stalls self.new.stalls bytes.now) }
         ensures failed { OnErr result (Rose self.old.faults self.new.faults) }
         ensures kept { OnErr result (Some self.new.taken ≡ Some self.old.taken) }

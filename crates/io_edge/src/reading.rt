@@ -45,7 +45,8 @@ impl From<NoMemory> for ReadAllFault {
 const PIECE: usize = 4096;
 
 /// Reads the source to its end, in at most `limit + 1` reads. A text of more than `limit` bytes is `TooLong`,
-/// and then `limit + 1` bytes of it are gone. The memory grows by doubling, to `limit + 1` bytes at most.
+/// and then `limit + 1` bytes of it are gone; after any other fault, at most `limit` bytes are. The memory grows
+/// by doubling, to `limit + 1` bytes at most.
 pub fn read_all<S: Source>(
     alloc: Global,
     src: &mut S,
@@ -54,7 +55,8 @@ pub fn read_all<S: Source>(
     ensures within { IfOk result (λ all. length all.items ≤ limit) }
     ensures whole { IfOk result (λ all. IfSome (S.left src.old) (λ text. all.items ≡ text)) }
     ensures leaves { IfSome (S.left src.old) (λ text. LeavesOf limit text result (S.left src.new)) }
-    ensures read_fault { IsErrOf result ReadAllFault.ReadFault → Rose (S.faults src.old) (S.faults src.new) }
+    ensures read_fault { IsErrOf result ReadAllFault.ReadFault
+        → Rose (S.faults src.old) (S.faults src.new) }
     ensures faults_never_fall { S.faults src.old ≤ S.faults src.new }
 {
     let mut all = Vec::new(alloc);
@@ -84,7 +86,8 @@ fn make_room(all: &mut Vec<u8>, size: usize, limit: usize) -> Result<(), NoMemor
     all.reserve_exact(size.max(all.len().min(limit - all.len())))
 }
 
-// Reads a piece to the end of `all`, which has room for it, and says how many bytes it has: none at the end of the text.
+// Reads a piece to the end of `all`, which has room for it, and says how many bytes it has:
+// none at the end of the text.
 fn read_piece<S: Source>(src: &mut S, piece: &mut [u8], all: &mut Vec<u8>) -> Result<usize, Failed>
     requires some { 0 < length piece.old }
     requires room { vec_len all.old + length piece.old ≤ vec_capacity all.old }

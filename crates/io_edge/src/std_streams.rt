@@ -101,7 +101,8 @@ impl<W: Write + Drop> Sink for StdSink<W> {
     ghost size = { λ _. 0 };
 
     fn write(&mut self, bytes: &[u8]) -> Result<usize, Failed>
-        ensures stalls_counted { IfOk result (λ k. self.new ≡ record self.old { stalls = stalls_after self.old.stalls (length bytes.now) k }) }
+        ensures stalls_counted { IfOk result (λ k.
+            self.new ≡ record self.old { stalls = stalls_after self.old.stalls (length bytes.now) k }) }
         ensures fault_counted { OnErr result (self.new ≡ record self.old { faults = raised self.old.faults }) }
 
         // The trait's clauses.

@@ -19,8 +19,10 @@ pub struct WriteFault {
 pub fn write_all_of<K: Sink>(sink: &mut K, bytes: &[u8]) -> Result<(), WriteFault>
     ensures whole { OnOk result (Gains (K.taken sink.old) (K.taken sink.new) bytes.now) }
     ensures short { IfErr result (λ fault. fault.taken < length bytes.now) }
-    ensures part { IfErr result (λ fault. Gains (K.taken sink.old) (K.taken sink.new) (take fault.taken bytes.now)) }
-    ensures cause { OnErr result (FailedOrStalled (K.faults sink.old) (K.faults sink.new) (K.stalls sink.old) (K.stalls sink.new)) }
+    ensures part { IfErr result (λ fault.
+        Gains (K.taken sink.old) (K.taken sink.new) (take fault.taken bytes.now)) }
+    ensures cause { OnErr result
+        (FailedOrStalled (K.faults sink.old) (K.faults sink.new) (K.stalls sink.old) (K.stalls sink.new)) }
     ensures faults_never_fall { K.faults sink.old ≤ K.faults sink.new }
     ensures stalls_never_fall { K.stalls sink.old ≤ K.stalls sink.new }
     ensures size_kept { K.size sink.new ≡ K.size sink.old }
