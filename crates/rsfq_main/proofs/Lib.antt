@@ -1,0 +1,4 @@
+pub mod PlainNames
+pub mod PlainLoops
+pub mod PlainExits
+pub mod SpellingLines
