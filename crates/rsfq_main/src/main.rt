@@ -23,6 +23,8 @@ mod plain;
 mod run;
 mod spelling;
 mod status;
+#[cfg(test)]
+mod tests;
 mod tree;
 mod words;
 
