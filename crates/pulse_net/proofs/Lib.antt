@@ -1,3 +1,6 @@
 mod Examples
 mod Windows
+mod Spread
 pub mod Steps
+mod Carried
+pub mod Law

@@ -16,7 +16,9 @@
 #![tactic(auto)]
 
 mod fault;
+mod laws;
 mod net;
 
 pub use fault::{Invalid, Place, Wrong};
+pub use laws::{pulses_are_row_values, reads_are_row_values};
 pub use net::{Element, Names, Outlet, PulseNet};
