@@ -1,5 +1,5 @@
 -- Pulses against row values, wire by wire: the induction over a netlist's elements.
-use Rattle.std.proofs.Common.{◌≡◌, ℕ, zero, suc, ◌+◌, ◌*◌, ◌%◌, ◌<◌, ◌≤◌, Bool, true, false, List, [], ◌∷◌, ◌++◌, map, get_or, refl, sym, ap, subst, ◌∙◌, arith}
+use Rattle.std.proofs.Common.{◌≡◌, ℕ, suc, ◌+◌, ◌*◌, ◌%◌, Bool, true, false, List, [], ◌∷◌, ◌++◌, map, get_or, refl, sym, ap, subst, ◌∙◌, arith}
 use Rattle.std.specs.Prelude.{Option, Some, None, unwrap_or, ◌==◌, if◌then◌else◌}
 use Rattle.std.proofs.lemmas.Bool.{eqb-true, eq-eqb, true≢false}
 use Rattle.std.proofs.Math.Nat.{mul-add-mod_self_left}
@@ -12,7 +12,7 @@ use Rattle.pulse_net.specs.Pulses.{Signal, silence, pulsed_within, input_signal,
 use Rattle.pulse_net.specs.RowValues.{input_value, stageless_value}
 use Rattle.pulse_net.proofs.Windows.{pulsed_within-at_clock}
 use Rattle.pulse_net.proofs.Spread.{spread-row, spread-clocked}
-use Rattle.pulse_net.proofs.Steps.{IsInTime, ArriveInTime, ElementInTime, ElementsInTime}
+use Rattle.pulse_net.proofs.Steps.{ArriveInTime, ElementInTime, ElementsInTime}
 
 -- With n phases, a signal of a wire of stage s keeps to the clock of s, and at tick n * c + s it pulses where the value is
 -- true. Nothing is said of earlier rows: while the pipeline fills a NOT pulses too, and nobody reads that.
@@ -33,7 +33,7 @@ module _ (n c : ℕ) where
   -- what a wire carries, where it was made
   pub aligned-found : (a : Wires ℕ) (b : Wires Bool) (d : Wires Signal) (wire stage : ℕ) → Aligned n c a b d → found a wire ≡ Some stage → Carries n c stage (carried false b wire) (carried silence d wire)
   aligned-found _ _ _ wire stage none e = cc
-  aligned-found _ _ _ wire stage (more other s v w a b d h p) e = by (other == wire) (λ e. aligned-found a b d wire stage p e) e
+  aligned-found _ _ _ wire stage (more other s v w a b d h p) e = by (wire == other) (λ e. aligned-found a b d wire stage p e) e
     where
       by : (same : Bool) → (found a wire ≡ Some stage → Carries n c stage (carried false b wire) (carried silence d wire)) → (if same then Some s else found a wire) ≡ Some stage → Carries n c stage (unwrap_or (if same then Some v else found b wire) false) (unwrap_or (if same then Some w else found d wire) silence)
       by true rest e = let t : s ≡ stage = cc in subst (λ s. Carries n c s v w) t h

@@ -1,6 +1,6 @@
 -- In a valid netlist the pulses are the row values, and so is what is read at the outputs.
-use Rattle.std.proofs.Common.{◌≡◌, ℕ, zero, suc, ◌+◌, ◌*◌, ◌%◌, ◌<◌, ◌≤◌, Bool, true, false, List, [], ◌∷◌, ◌++◌, length, get_or, refl, sym, ap, subst, ◌∙◌, arith}
-use Rattle.std.specs.Prelude.{Option, Some, None, Result, Ok, Err, IsOk, IsTrue, ◌==◌, ◌||◌, slice_index_or, flat_map}
+use Rattle.std.proofs.Common.{◌≡◌, ℕ, zero, suc, ◌+◌, ◌*◌, ◌%◌, ◌≤◌, Bool, true, false, List, [], ◌∷◌, ◌++◌, get_or, refl, sym, ap, subst, ◌∙◌, arith}
+use Rattle.std.specs.Prelude.{Option, Some, None, Result, Ok, Err, IsOk, ◌==◌, ◌||◌, slice_index_or, flat_map}
 use Rattle.std.specs.List.{list_any}
 use Rattle.std.proofs.lemmas.Bool.{eqb-true, eq-eqb, true≢false, false_from_ne_true}
 use Rattle.std.proofs.Math.Nat.{mul-mod_right, mul-add-mod_self_left}
@@ -8,15 +8,14 @@ use Rattle.pulse_net.specs.declared.net.Element.{Element}
 use Rattle.pulse_net.specs.declared.net.Outlet.{Outlet}
 use Rattle.pulse_net.specs.declared.net.Outlet.TheVariants.{Zero, One, Wire}
 use Rattle.pulse_net.specs.declared.net.PulseNet.{PulseNet}
-use Rattle.pulse_net.specs.declared.fault.Invalid.{Invalid}
 use Rattle.pulse_net.specs.Formed.{outlet_at}
-use Rattle.pulse_net.specs.Wires.{Wires, found, carried, input_wires, after_elements, input_stage, cell_stage, stages_of, uses_of, element_uses, outlet_uses}
+use Rattle.pulse_net.specs.Wires.{Wires, carried, input_wires, after_elements, input_stage, cell_stage, stages_of, uses_of, element_uses, outlet_uses}
 use Rattle.pulse_net.specs.Validity.{Wiring, ◌>>=◌, wire_inputs, wire_elements, wire_outputs, check_latency, close_at, close_wires, has_wire, wiring_of, least_unused, IsValid}
-use Rattle.pulse_net.specs.Pulses.{Signal, silence, pulsed_within, signals_of, signal_of, outlet_signal, spread, value_read, input_signal, cell_signal}
-use Rattle.pulse_net.specs.RowValues.{row_values, row_value, outlet_value, output_value, PulsesAsValued, PulsesAreRowValues, ReadsAreRowValues, input_value, stageless_value}
+use Rattle.pulse_net.specs.Pulses.{Signal, silence, pulsed_within, signals_of, outlet_signal, spread, input_signal, cell_signal}
+use Rattle.pulse_net.specs.RowValues.{row_values, outlet_value, PulsesAreRowValues, ReadsAreRowValues, input_value, stageless_value}
 use Rattle.pulse_net.proofs.Windows.{pulsed_within-at_clock, pulsed_within-tick}
-use Rattle.pulse_net.proofs.Steps.{both_steps, IsInTime, ElementsInTime, OutletInTime, OutletsInTime, wire_inputs-ok, wire_elements-ok, wire_outputs-ok}
-use Rattle.pulse_net.proofs.Carried.{Carries, Aligned, aligned-found, elements_carry, inputs_carry}
+use Rattle.pulse_net.proofs.Steps.{both_steps, ElementsInTime, OutletInTime, OutletsInTime, wire_inputs-ok, wire_elements-ok, wire_outputs-ok}
+use Rattle.pulse_net.proofs.Carried.{Aligned, aligned-found, elements_carry, inputs_carry}
 
 -- a netlist that breaks no rule: each source is made in time, and the wiring is that of all elements and outputs
 pub record IsWired (net : PulseNet) (wiring : Wiring) : Type 0 where

@@ -1,5 +1,5 @@
 -- Of the ticks of a window just one can have a pulse, where a signal keeps to one clock.
-use Rattle.std.proofs.Common.{◌≡◌, ℕ, zero, suc, ◌+◌, ◌*◌, ◌/◌, ◌%◌, ◌<◌, ◌≤◌, Bool, true, false, ◌||◌, refl, sym, ap, subst, ◌∙◌, ⊎_elim, arith}
+use Rattle.std.proofs.Common.{◌≡◌, ℕ, zero, suc, ◌+◌, ◌*◌, ◌/◌, ◌%◌, ◌<◌, ◌≤◌, true, sym, ap, ◌∙◌, ⊎_elim, arith}
 use Rattle.std.proofs.lemmas.Bool.{or_cases, or_left, or_right, cases_Bool, cases_order, false_from_ne_true, true≢false}
 use Rattle.std.proofs.Math.Nat.{div-add-mod}
 use Rattle.pulse_net.specs.Pulses.{Signal, pulsed_within}

@@ -32,7 +32,7 @@ at place (Err cause) = Err (record { place = place; cause = cause })
 
 -- a wire is among these
 abbrev pub is_among : List ℕ → ℕ → Bool
-is_among wires wire = list_any (λ other. other == wire) wires
+is_among wires wire = list_any (λ other. wire == other) wires
 
 -- a wire may be made once
 abbrev pub made_once : Wiring → ℕ → ℕ → Option ℕ → Result Wiring Wrong
