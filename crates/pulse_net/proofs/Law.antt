@@ -2,6 +2,7 @@
 use Rattle.std.proofs.Common.{◌≡◌, ℕ, zero, suc, ◌+◌, ◌*◌, ◌%◌, ◌≤◌, Bool, true, false, List, [], ◌∷◌, ◌++◌, get_or, refl, sym, ap, subst, ◌∙◌, arith}
 use Rattle.std.specs.Prelude.{Option, Some, None, Result, Ok, Err, IsOk, ◌==◌, ◌||◌, slice_index_or, flat_map}
 use Rattle.std.specs.List.{list_any}
+use Rattle.std.specs.Map.{keys_of}
 use Rattle.std.proofs.lemmas.Bool.{eqb-true, eq-eqb, true≢false, false_from_ne_true}
 use Rattle.std.proofs.Math.Nat.{mul-mod_right, mul-add-mod_self_left}
 use Rattle.pulse_net.specs.declared.net.Element.{Element}
@@ -10,7 +11,7 @@ use Rattle.pulse_net.specs.declared.net.Outlet.TheVariants.{Zero, One, Wire}
 use Rattle.pulse_net.specs.declared.net.PulseNet.{PulseNet}
 use Rattle.pulse_net.specs.Formed.{outlet_at}
 use Rattle.pulse_net.specs.Wires.{Wires, carried, input_wires, after_elements, input_stage, cell_stage, stages_of, uses_of, element_uses, outlet_uses}
-use Rattle.pulse_net.specs.Validity.{Wiring, ◌>>=◌, wire_inputs, wire_elements, wire_outputs, check_latency, close_at, close_wires, has_wire, wiring_of, least_unused, IsValid}
+use Rattle.pulse_net.specs.Validity.{Wiring, ◌>>=◌, wire_inputs, wire_elements, wire_outputs, unwired, check_latency, close_at, close_wires, has_wire, wiring_of, least_unused, IsValid}
 use Rattle.pulse_net.specs.Pulses.{Signal, silence, pulsed_within, signals_of, outlet_signal, spread, input_signal, cell_signal}
 use Rattle.pulse_net.specs.RowValues.{row_values, outlet_value, PulsesAreRowValues, ReadsAreRowValues, input_value, stageless_value}
 use Rattle.pulse_net.proofs.Windows.{pulsed_within-at_clock, pulsed_within-tick}
@@ -23,7 +24,7 @@ pub record IsWired (net : PulseNet) (wiring : Wiring) : Type 0 where
   pub outputs : OutletsInTime net.phases (net.phases * net.latency) (stages_of net) net.outputs
   pub made : wiring.made ≡ stages_of net
   pub used : wiring.used ≡ uses_of net
-  pub closed : least_unused wiring.made wiring.used ≡ None
+  pub closed : least_unused wiring.used None (keys_of wiring.made) ≡ None
 
 latency-same : (latency : ℕ) (fine : Bool) (wiring after : Wiring) → check_latency latency fine wiring ≡ Ok after → after ≡ wiring
 latency-same latency true wiring after h = cc
@@ -36,9 +37,6 @@ record Closes (wiring : Wiring) (unused : Option ℕ) (after : Wiring) : Type 0 
 close-ok : (wiring : Wiring) (unused : Option ℕ) (after : Wiring) → close_at wiring unused ≡ Ok after → Closes wiring unused after
 close-ok wiring None after h = record { none = refl; gives = cc }
 close-ok wiring (Some wire) after h = cc
-
-abbrev unwired : Wiring
-unwired = record { made = []; used = [] }
 
 pub wired : (net : PulseNet) (wiring : Wiring) → wiring_of net ≡ Ok wiring → IsWired net wiring
 wired net wiring h =
@@ -54,7 +52,7 @@ wired net wiring h =
     let after_inputs = wire_inputs-ok 0 net.inputs unwired b.0 b.1 in
     let after_all = wire_elements-ok n 0 net.elements b.0 c.0 b.2 in
     let after_outputs = wire_outputs-ok n net.latency 0 net.outputs c.0 d.0 c.2 in
-    let close = close-ok e.0 (least_unused e.0.made e.0.used) wiring e.2 in
+    let close = close-ok e.0 (least_unused e.0.used None (keys_of e.0.made)) wiring e.2 in
     let end : wiring ≡ d.0 = close.gives ∙ latency-same net.latency fine d.0 e.0 d.2 in
     let made : c.0.made ≡ stages_of net = after_all.made ∙ ap (λ m. after_elements 0 cell_stage m net.elements) after_inputs.made in
     let used : d.0.used ≡ uses_of net = after_outputs.used ∙ ap (λ u. u ++ flat_map outlet_uses net.outputs) (after_all.used ∙ ap (λ u. u ++ flat_map element_uses net.elements) after_inputs.used) in
@@ -63,7 +61,7 @@ wired net wiring h =
       outputs = subst (λ m. OutletsInTime n (n * net.latency) m net.outputs) made after_outputs.in_time;
       made = ap (λ (w : Wiring). w.made) end ∙ after_outputs.made ∙ made;
       used = ap (λ (w : Wiring). w.used) end ∙ used;
-      closed = subst (λ (w : Wiring). least_unused w.made w.used ≡ None) (sym close.gives) close.none
+      closed = subst (λ (w : Wiring). least_unused w.used None (keys_of w.made) ≡ None) (sym close.gives) close.none
     }
 
 -- the wiring of a netlist that breaks no rule

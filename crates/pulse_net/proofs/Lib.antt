@@ -4,3 +4,4 @@ mod Spread
 pub mod Steps
 mod Carried
 pub mod Law
+mod Tables

@@ -3,3 +3,4 @@ pub mod Wires
 pub mod Validity
 pub mod Pulses
 pub mod RowValues
+pub mod Refusals

@@ -18,7 +18,10 @@
 mod fault;
 mod laws;
 mod net;
+mod validity;
+mod wires;
 
-pub use fault::{Invalid, Place, Wrong};
+pub use fault::{Invalid, Place, ValidFault, Wrong};
 pub use laws::{pulses_are_row_values, reads_are_row_values};
 pub use net::{Element, Names, Outlet, PulseNet};
+pub use validity::valid;

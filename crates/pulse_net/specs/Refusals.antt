@@ -1,0 +1,25 @@
+-- How a refusal in the code tells of one in the rules. Want of memory tells nothing of them.
+use Rattle.std.specs.Prelude.{◌≡◌, Result, Ok, Err, ⊤}
+use Rattle.pulse_net.specs.declared.fault.Place.{Place}
+use Rattle.pulse_net.specs.declared.fault.Wrong.{Wrong}
+use Rattle.pulse_net.specs.declared.fault.Invalid.{Invalid}
+use Rattle.pulse_net.specs.declared.fault.ValidFault.{ValidFault}
+use Rattle.pulse_net.specs.declared.fault.ValidFault.TheVariants.{Invalid as Broken, NoMemory as NoRoom}
+use Rattle.pulse_net.specs.declared.fault.Stop.{Stop}
+use Rattle.pulse_net.specs.declared.fault.Stop.TheVariants.{Wrong as Breaks, NoMemory as Stopped}
+
+-- the rules refuse with this place and cause, or memory gave out
+abbrev pub Fails : {A : Type 0} → ValidFault → Result A Invalid → Type 0
+Fails NoRoom rules = ⊤
+Fails (Broken invalid) rules = rules ≡ Err invalid
+
+-- the rules refuse with this cause, or memory gave out
+abbrev pub Stops : {A : Type 0} → Stop → Result A Wrong → Type 0
+Stops Stopped rules = ⊤
+Stops (Breaks cause) rules = rules ≡ Err cause
+
+-- what a step at a place answers
+abbrev pub stood_at : Place → Result Unit Stop → Result Unit ValidFault
+stood_at place (Ok u) = Ok u
+stood_at place (Err (Breaks cause)) = Err (Broken (record { place = place; cause = cause }))
+stood_at place (Err Stopped) = Err NoRoom

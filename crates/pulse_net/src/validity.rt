@@ -1,0 +1,95 @@
+//! Whether a netlist is valid, and else the first rule that it breaks.
+
+ghost use Rattle.std.specs.Prelude.{◌≡◌, ◌<◌, ◌^◌, ◌↔◌, ◌+◌, ◌*◌, ◌||◌, ◌==◌, Ok, IsOk, MatchResult, length, true};
+ghost use Rattle.std.specs.List.{list_any};
+ghost use Rattle.pulse_net.specs.Formed.{IsFormed};
+ghost use Rattle.pulse_net.specs.Validity.{at, wiring_of, wire_inputs, wire_elements, wire_outputs, check_latency, close_wires, has_wire};
+ghost use Rattle.pulse_net.specs.Refusals.{Fails, stood_at};
+
+use crate::fault::{Invalid, Place, Stop, ValidFault, Wrong};
+use crate::net::{Element, Outlet, PulseNet};
+use crate::wires::Wires;
+use std::alloc::Global;
+
+/// Finds a netlist valid, or names the first rule that it breaks: in inputs, elements and outputs in order, then in the
+/// latency, and then at the close.
+pub fn valid(alloc: Global, net: &PulseNet) -> Result<(), ValidFault>
+    requires formed { IsFormed net.now }
+    requires few_inputs { length net.now.inputs < 2 ^ 31 }
+    requires few_elements { length net.now.elements < 2 ^ 31 }
+    requires few_outputs { length net.now.outputs < 2 ^ 31 }
+    ensures { MatchResult result (λ _. IsOk (wiring_of net.now)) (λ fault. Fails fault (wiring_of net.now)) }
+{
+    let mut wires = Wires::new(alloc);
+    pass_inputs(&mut wires, net.inputs.as_slice())?;
+    pass_elements(&mut wires, net.phases, net.elements.as_slice())?;
+    pass_outputs(&mut wires, net.phases, net.latency, net.outputs.as_slice())?;
+    if net.latency != 1 && !net.outputs.as_slice().iter().any(|outlet| has_wire(*outlet)) {
+        return Err(broken(Place::Latency, Wrong::NoWires(net.latency)));
+    }
+    match wires.least_unused() {
+        None => Ok(()),
+        Some(wire) => Err(broken(Place::Close, Wrong::Unused(wire))),
+    }
+}
+
+/// Each used input makes its wire.
+fn pass_inputs(wires: &mut Wires, inputs: &[Option<u32>]) -> Result<(), ValidFault>
+    requires { length inputs.now < 2 ^ 31 }
+    ensures { MatchResult result (λ _. wire_inputs 0 inputs.now wires.old ≡ Ok wires.new) (λ fault. Fails fault (wire_inputs 0 inputs.now wires.old)) }
+{
+    for (place, input) in inputs.iter().enumerate() {
+        if let Some(wire) = input {
+            stand_at(Place::Input(place as u32), wires.make(*wire, 0))?;
+        }
+    }
+    Ok(())
+}
+
+/// Each element uses its sources and makes its wires.
+fn pass_elements(wires: &mut Wires, phases: u32, elements: &[Element]) -> Result<(), ValidFault>
+    requires { length elements.now < 2 ^ 31 }
+    ensures { MatchResult result (λ _. wire_elements phases 0 elements.now wires.old ≡ Ok wires.new) (λ fault. Fails fault (wire_elements phases 0 elements.now wires.old)) }
+{
+    for (place, element) in elements.iter().enumerate() {
+        stand_at(Place::Element(place as u32), wires.pass_element(phases, element))?;
+    }
+    Ok(())
+}
+
+/// Each output that isn't constant uses its wire.
+fn pass_outputs(wires: &mut Wires, phases: u32, latency: u32, outputs: &[Outlet]) -> Result<(), ValidFault>
+    requires few { length outputs.now < 2 ^ 31 }
+    requires phases { phases < 256 }
+    ensures { MatchResult result (λ _. wire_outputs phases latency 0 outputs.now wires.old ≡ Ok wires.new) (λ fault. Fails fault (wire_outputs phases latency 0 outputs.now wires.old)) }
+{
+    for (place, outlet) in outputs.iter().enumerate() {
+        stand_at(Place::Output(place as u32), wires.pass_output(phases, latency, *outlet))?;
+    }
+    Ok(())
+}
+
+/// Whether an output has a wire.
+fn has_wire(outlet: Outlet) -> bool
+    ensures { result ≡ has_wire outlet }
+{
+    matches!(outlet, Outlet::Wire(_))
+}
+
+/// The fault of a rule that is broken at a place.
+fn broken(place: Place, cause: Wrong) -> ValidFault
+    ensures { result ≡ ValidFault.Invalid (record { place = place; cause = cause }) }
+{
+    ValidFault::Invalid(Invalid { place, cause })
+}
+
+/// A step at a place.
+fn stand_at(place: Place, step: Result<(), Stop>) -> Result<(), ValidFault>
+    ensures { result ≡ stood_at place step }
+{
+    match step {
+        Ok(()) => Ok(()),
+        Err(Stop::Wrong(cause)) => Err(broken(place, cause)),
+        Err(Stop::NoMemory) => Err(ValidFault::NoMemory),
+    }
+}
