@@ -61,7 +61,7 @@ module _ (n c : ℕ) where
       let there : ((n * c + stage) % n == stage % n) ≡ true = eq-eqb ((n * c + stage) % n) (stage % n) (mul-add-mod_self_left n c stage) in
       record {
         clocked = λ tick e. on_clock-true tick stage (tick % n == stage % n) (window_value n cell (map (carried silence signals) pins)) refl e;
-        on_time = ap (λ here. on_clock here (window_value n cell (map (carried silence signals) pins)) (n * c + stage)) there ∙ ap (cell_value cell) (windows_are_values stages values signals p stage pins h)
+        on_time = ap (λ here. on_clock here (window_value n cell (map (carried silence signals) pins)) (n * c + stage)) there ∙ ap (cell_value cell) (windows_are_values stages values signals p stage pins h);
       }
 
   element_carries : (stages : Wires ℕ) (values : Wires Bool) (signals : Wires Signal) → Aligned n c stages values signals → (element : Element) → ElementInTime n stages element → Aligned n c (element_wires 0 cell_stage stages element) (element_wires false stageless_value values element) (element_wires silence (cell_signal n) signals element)
@@ -85,8 +85,8 @@ inputs_carry k c rows (Some wire ∷ inputs) place =
     let e : suc k * c + 0 ≡ suc k * c = omega arith in
     let zero_mod : 0 % suc k ≡ 0 = omega arith in
     more wire 0 _ _ _ _ _
-      (record {
-        clocked = λ tick h. spread-clocked k rows place tick h ∙ sym zero_mod;
-        on_time = ap (input_signal (spread (suc k) rows) place) e ∙ ap (λ r. get_or r place false) (spread-row k rows c)
-      })
-      (inputs_carry k c rows inputs (place + 1))
+    (record {
+      clocked = λ tick h. spread-clocked k rows place tick h ∙ sym zero_mod;
+      on_time = ap (input_signal (spread (suc k) rows) place) e ∙ ap (λ r. get_or r place false) (spread-row k rows c);
+    })
+    (inputs_carry k c rows inputs (place + 1))

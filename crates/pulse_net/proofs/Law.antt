@@ -61,7 +61,7 @@ wired net wiring h =
       outputs = subst (λ m. OutletsInTime n (n * net.latency) m net.outputs) made after_outputs.in_time;
       made = ap (λ (w : Wiring). w.made) end ∙ after_outputs.made ∙ made;
       used = ap (λ (w : Wiring). w.used) end ∙ used;
-      closed = subst (λ (w : Wiring). least_unused w.used None (keys_of w.made) ≡ None) (sym close.gives) close.none
+      closed = subst (λ (w : Wiring). least_unused w.used None (keys_of w.made) ≡ None) (sym close.gives) close.none;
     }
 
 -- the wiring of a netlist that breaks no rule

@@ -39,11 +39,11 @@ module _ (k : ℕ) where
       let e : suc k - 1 ≡ k = omega arith in
       let n : length (replicate (suc k - 1) (silent_row row)) ≡ k = length-replicate (suc k - 1) (silent_row row) ∙ e in
       ⊎_elim (λ l.
-        let here = get_or-append (replicate (suc k - 1) (silent_row row)) (spread (suc k) rows) [] tick (omega arith) ∙ get_or-replicate (suc k - 1) tick (silent_row row) [] (omega arith) in
-        absurd (true≢false (sym h ∙ ap (λ r. get_or r i false) here ∙ silent (length row) i)))
-        (λ l.
-          let there = sym (ap (λ r. get_or r i false) (later row rows (suc tick) (omega arith))) ∙ h in
-          let rest = spread-clocked rows i (suc tick - suc k) there in
-          let sum : suc tick ≡ suc k + (suc tick - suc k) = omega arith in
-          ap (λ t. t % suc k) sum ∙ add-mod_left (suc k) (suc tick - suc k) ∙ rest)
-        (cases_lt tick k)
+      let here = get_or-append (replicate (suc k - 1) (silent_row row)) (spread (suc k) rows) [] tick (omega arith) ∙ get_or-replicate (suc k - 1) tick (silent_row row) [] (omega arith) in
+      absurd (true≢false (sym h ∙ ap (λ r. get_or r i false) here ∙ silent (length row) i)))
+      (λ l.
+      let there = sym (ap (λ r. get_or r i false) (later row rows (suc tick) (omega arith))) ∙ h in
+      let rest = spread-clocked rows i (suc tick - suc k) there in
+      let sum : suc tick ≡ suc k + (suc tick - suc k) = omega arith in
+      ap (λ t. t % suc k) sum ∙ add-mod_left (suc k) (suc tick - suc k) ∙ rest)
+      (cases_lt tick k)

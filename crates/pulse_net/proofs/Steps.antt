@@ -111,7 +111,7 @@ use_pins-ok phases user (pin ∷ pins) wiring after h =
     record {
       in_time = ((one.stage, one.free.made, one.in_time), subst (λ m. ArriveInTime phases m user pins) same rest.in_time);
       made = rest.made ∙ same;
-      used = rest.used ∙ ap (λ (w : Wiring). w.used ++ pins) one.gives ∙ append_assoc wiring.used (pin ∷ []) pins
+      used = rest.used ∙ ap (λ (w : Wiring). w.used ++ pins) one.gives ∙ append_assoc wiring.used (pin ∷ []) pins;
     }
 
 -- the sources of an element were made, those of a clocked cell 1 to n ticks before
@@ -133,7 +133,7 @@ wire_element-ok phases (Clocked cell stage pins out) wiring after h =
     record {
       in_time = all.in_time;
       made = ap (λ (w : Wiring). w.made) makes.gives ∙ ap (λ m. m ++ (out, stage) ∷ []) all.made;
-      used = ap (λ (w : Wiring). w.used) makes.gives ∙ all.used
+      used = ap (λ (w : Wiring). w.used) makes.gives ∙ all.used;
     }
 wire_element-ok phases (Split from left right) wiring after h =
     let s = both_steps (source_stage wiring from) (λ stage. make_wire left stage (with_used wiring from) >>= make_wire right stage) after h in
@@ -145,7 +145,7 @@ wire_element-ok phases (Split from left right) wiring after h =
     record {
       in_time = (s.0, free.made);
       made = ap (λ (w : Wiring). w.made) two.gives ∙ ap (λ (w : Wiring). w.made ++ (right, s.0) ∷ []) one.gives ∙ append_assoc wiring.made ((left, s.0) ∷ []) ((right, s.0) ∷ []) ∙ ap (λ x. wiring.made ++ (left, x) ∷ ((right, x) ∷ [])) (sym stage);
-      used = ap (λ (w : Wiring). w.used) two.gives ∙ ap (λ (w : Wiring). w.used) one.gives
+      used = ap (λ (w : Wiring). w.used) two.gives ∙ ap (λ (w : Wiring). w.used) one.gives;
     }
 
 -- the sources of all elements in order
@@ -169,7 +169,7 @@ wire_elements-ok phases place (element ∷ elements) wiring after h =
     record {
       in_time = (one.in_time, subst (λ m. ElementsInTime phases m elements) one.made rest.in_time);
       made = rest.made ∙ ap (λ m. after_elements 0 cell_stage m elements) one.made;
-      used = rest.used ∙ ap (λ u. u ++ flat_map element_uses elements) one.used ∙ append_assoc wiring.used (element_uses element) (flat_map element_uses elements)
+      used = rest.used ∙ ap (λ u. u ++ flat_map element_uses elements) one.used ∙ append_assoc wiring.used (element_uses element) (flat_map element_uses elements);
     }
 
 -- each output that isn't constant is on a wire that was made 1 to n ticks before it is read
@@ -197,7 +197,7 @@ wire_output-ok phases latency (Wire wire) wiring after h =
     record {
       in_time = (one.stage, one.free.made, one.in_time);
       made = ap (λ (w : Wiring). w.made) one.gives;
-      used = ap (λ (w : Wiring). w.used) one.gives
+      used = ap (λ (w : Wiring). w.used) one.gives;
     }
 
 pub record WiresOutlets (phases user : ℕ) (wiring : Wiring) (outlets : List Outlet) (after : Wiring) : Type 0 where
@@ -215,7 +215,7 @@ wire_outputs-ok phases latency place (outlet ∷ outlets) wiring after h =
     record {
       in_time = (one.in_time, subst (λ m. OutletsInTime phases (phases * latency) m outlets) one.made rest.in_time);
       made = rest.made ∙ one.made;
-      used = rest.used ∙ ap (λ u. u ++ flat_map outlet_uses outlets) one.used ∙ append_assoc wiring.used (outlet_uses outlet) (flat_map outlet_uses outlets)
+      used = rest.used ∙ ap (λ u. u ++ flat_map outlet_uses outlets) one.used ∙ append_assoc wiring.used (outlet_uses outlet) (flat_map outlet_uses outlets);
     }
 
 pub record WiresInputs (place : ℕ) (inputs : List (Option ℕ)) (wiring after : Wiring) : Type 0 where
@@ -233,5 +233,5 @@ wire_inputs-ok place (Some wire ∷ inputs) wiring after h =
     let rest = wire_inputs-ok (place + 1) inputs s.0 after s.2 in
     record {
       made = rest.made ∙ ap (λ (w : Wiring). w.made ++ input_wires input_stage (place + 1) inputs) makes.gives ∙ append_assoc wiring.made ((wire, 0) ∷ []) (input_wires input_stage (place + 1) inputs);
-      used = rest.used ∙ ap (λ (w : Wiring). w.used) makes.gives
+      used = rest.used ∙ ap (λ (w : Wiring). w.used) makes.gives;
     }

@@ -6,11 +6,9 @@ ghost use Rattle.pulse_net.specs.RowValues.{PulsesAreRowValues, ReadsAreRowValue
 /// s modulo n, and at tick n * c + s it pulses exactly where its value over row c is true.
 pub fn pulses_are_row_values()
     ensures { PulsesAreRowValues }
-{
-}
+{}
 
 /// In a valid netlist the value read at an output for row c is the output's value over row c.
 pub fn reads_are_row_values()
     ensures { ReadsAreRowValues }
-{
-}
+{}

@@ -24,13 +24,10 @@ pub fn valid(alloc: Global, net: &PulseNet) -> Result<(), ValidFault>
     pass_inputs(&mut wires, net.inputs.as_slice())?;
     pass_elements(&mut wires, net.phases, net.elements.as_slice())?;
     pass_outputs(&mut wires, net.phases, net.latency, net.outputs.as_slice())?;
-    if net.latency != 1 && !net.outputs.as_slice().iter().any(|outlet| has_wire(*outlet)) {
+    if !keeps_latency(net.latency, net.outputs.as_slice()) {
         return Err(broken(Place::Latency, Wrong::NoWires(net.latency)));
     }
-    match wires.least_unused() {
-        None => Ok(()),
-        Some(wire) => Err(broken(Place::Close, Wrong::Unused(wire))),
-    }
+    close(&wires)
 }
 
 /// Each used input makes its wire.
@@ -52,21 +49,56 @@ fn pass_elements(wires: &mut Wires, phases: u32, elements: &[Element]) -> Result
     ensures { MatchResult result (λ _. wire_elements phases 0 elements.now wires.old ≡ Ok wires.new) (λ fault. Fails fault (wire_elements phases 0 elements.now wires.old)) }
 {
     for (place, element) in elements.iter().enumerate() {
-        stand_at(Place::Element(place as u32), wires.pass_element(phases, element))?;
+        stand_at(
+            Place::Element(place as u32),
+            wires.pass_element(phases, element),
+        )?;
     }
     Ok(())
 }
 
 /// Each output that isn't constant uses its wire.
-fn pass_outputs(wires: &mut Wires, phases: u32, latency: u32, outputs: &[Outlet]) -> Result<(), ValidFault>
+fn pass_outputs(
+    wires: &mut Wires,
+    phases: u32,
+    latency: u32,
+    outputs: &[Outlet],
+) -> Result<(), ValidFault>
     requires few { length outputs.now < 2 ^ 31 }
     requires phases { phases < 256 }
     ensures { MatchResult result (λ _. wire_outputs phases latency 0 outputs.now wires.old ≡ Ok wires.new) (λ fault. Fails fault (wire_outputs phases latency 0 outputs.now wires.old)) }
 {
     for (place, outlet) in outputs.iter().enumerate() {
-        stand_at(Place::Output(place as u32), wires.pass_output(phases, latency, *outlet))?;
+        stand_at(
+            Place::Output(place as u32),
+            wires.pass_output(phases, latency, *outlet),
+        )?;
     }
     Ok(())
+}
+
+/// Where no output has a wire, the latency is to be 1.
+fn keeps_latency(latency: u32, outputs: &[Outlet]) -> bool
+    ensures { result ≡ (latency == 1 || list_any has_wire outputs.now) }
+{
+    latency == 1 || has_some_wire(outputs)
+}
+
+/// Whether one of the outputs has a wire.
+fn has_some_wire(outputs: &[Outlet]) -> bool
+    ensures { result ≡ list_any has_wire outputs.now }
+{
+    outputs.iter().any(|outlet| has_wire(*outlet))
+}
+
+/// At the end each wire is used.
+fn close(wires: &Wires) -> Result<(), ValidFault>
+    ensures { MatchResult result (λ _. IsOk (close_wires wires.now)) (λ fault. Fails fault (close_wires wires.now)) }
+{
+    match wires.least_unused() {
+        None => Ok(()),
+        Some(wire) => Err(broken(Place::Close, Wrong::Unused(wire))),
+    }
 }
 
 /// Whether an output has a wire.

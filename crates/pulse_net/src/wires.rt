@@ -96,7 +96,12 @@ impl Wires {
         ensures { MatchResult result (λ _. wire_element phases element.now self.old ≡ Ok self.new) (λ stop. Stops stop (wire_element phases element.now self.old)) }
     {
         match element {
-            Element::Clocked { stage, pins, out, .. } => {
+            Element::Clocked {
+                stage,
+                pins,
+                out,
+                ..
+            } => {
                 self.use_pins(phases, *stage, pins.as_slice())?;
                 self.make(*out, *stage)
             }
@@ -110,7 +115,12 @@ impl Wires {
     }
 
     /// An output that isn't constant uses its wire when it is read.
-    pub(crate) fn pass_output(&mut self, phases: u32, latency: u32, outlet: Outlet) -> Result<(), Stop>
+    pub(crate) fn pass_output(
+        &mut self,
+        phases: u32,
+        latency: u32,
+        outlet: Outlet,
+    ) -> Result<(), Stop>
         requires { phases < 256 }
         ensures { MatchResult result (λ _. wire_output phases latency outlet self.old ≡ Ok self.new) (λ stop. Stops stop (wire_output phases latency outlet self.old)) }
     {
