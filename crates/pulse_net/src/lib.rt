@@ -16,12 +16,14 @@
 #![tactic(auto)]
 
 mod fault;
+mod formed;
 mod laws;
 mod net;
 mod validity;
 mod wires;
 
 pub use fault::{Invalid, Place, ValidFault, Wrong};
+pub use formed::is_formed;
 pub use laws::{pulses_are_row_values, reads_are_row_values};
-pub use net::{Element, Names, Outlet, PulseNet};
+pub use net::{Element, MAX_PHASES, Names, Outlet, PulseNet};
 pub use validity::valid;
