@@ -12,7 +12,7 @@ use Rattle.pulse_net.specs.Pulses.{Signal, silence, pulsed_within, input_signal,
 use Rattle.pulse_net.specs.RowValues.{input_value, stageless_value}
 use Rattle.pulse_net.proofs.Windows.{pulsed_within-at_clock}
 use Rattle.pulse_net.proofs.Spread.{spread-row, spread-clocked}
-use Rattle.pulse_net.proofs.Steps.{ArriveInTime, ElementInTime, ElementsInTime}
+use Rattle.pulse_net.specs.Wired.{ArriveInTime, ElementInTime, ElementsInTime}
 
 -- With n phases, a signal of a wire of stage s keeps to the clock of s, and at tick n * c + s it pulses where the value is
 -- true. Nothing is said of earlier rows: while the pipeline fills a NOT pulses too, and nobody reads that.

@@ -15,7 +15,8 @@ use Rattle.pulse_net.specs.Validity.{Wiring, ◌>>=◌, wire_inputs, wire_elemen
 use Rattle.pulse_net.specs.Pulses.{Signal, silence, pulsed_within, signals_of, outlet_signal, spread, input_signal, cell_signal}
 use Rattle.pulse_net.specs.RowValues.{row_values, outlet_value, PulsesAreRowValues, ReadsAreRowValues, input_value, stageless_value}
 use Rattle.pulse_net.proofs.Windows.{pulsed_within-at_clock, pulsed_within-tick}
-use Rattle.pulse_net.proofs.Steps.{both_steps, ElementsInTime, OutletInTime, OutletsInTime, wire_inputs-ok, wire_elements-ok, wire_outputs-ok}
+use Rattle.pulse_net.specs.Wired.{ElementsInTime, OutletInTime, OutletsInTime}
+use Rattle.pulse_net.proofs.Steps.{both_steps, wire_inputs-ok, wire_elements-ok, wire_outputs-ok}
 use Rattle.pulse_net.proofs.Carried.{Aligned, aligned-found, elements_carry, inputs_carry}
 
 -- a netlist that breaks no rule: each source is made in time, and the wiring is that of all elements and outputs

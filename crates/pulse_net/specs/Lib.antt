@@ -3,4 +3,5 @@ pub mod Wires
 pub mod Validity
 pub mod Pulses
 pub mod RowValues
+pub mod Wired
 pub mod Refusals
