@@ -2,6 +2,8 @@ mod Examples
 mod Windows
 mod Spread
 pub mod Steps
+pub mod Once
+pub mod Unbroken
 mod Carried
 pub mod Law
 mod Tables

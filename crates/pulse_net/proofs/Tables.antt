@@ -1,10 +1,8 @@
 -- A wire that is new goes to the end of a table.
 use Rattle.std.proofs.Common.{◌≡◌, ℕ, Bool, true, false, cond, nat_eq, List, [], ◌∷◌, ◌++◌, refl, sym, ap, ◌∙◌}
-use Rattle.std.specs.Prelude.{Option, Some, None, Result, Ok, is_some}
-use Rattle.std.proofs.lemmas.Bool.{true≢false}
+use Rattle.std.specs.Prelude.{Option, Some, None, Ok, is_some}
 use Rattle.indexmap.specs.IndexMap.{insert_entry}
 use Rattle.indexmap.specs.IndexSet.{insert_key}
-use Rattle.pulse_net.specs.declared.fault.Wrong.{Wrong}
 use Rattle.pulse_net.specs.Wires.{Wires, found}
 use Rattle.pulse_net.specs.Validity.{Wiring, is_among, made_once, make_wire, with_used}
 

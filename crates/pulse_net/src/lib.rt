@@ -24,6 +24,6 @@ mod wires;
 
 pub use fault::{Invalid, Place, ValidFault, Wrong};
 pub use formed::is_formed;
-pub use laws::{pulses_are_row_values, reads_are_row_values};
+pub use laws::{pulses_are_row_values, reads_are_row_values, unbroken_is_wired};
 pub use net::{Element, MAX_PHASES, Names, Outlet, PulseNet};
 pub use validity::valid;
