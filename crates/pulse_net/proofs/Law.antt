@@ -11,7 +11,8 @@ use Rattle.pulse_net.specs.Formed.{outlet_at}
 use Rattle.pulse_net.specs.Wires.{Wires, carried, input_wires, after_elements, input_stage, cell_stage, stages_of}
 use Rattle.pulse_net.specs.Validity.{IsValid}
 use Rattle.pulse_net.specs.Pulses.{Signal, silence, pulsed_within, signals_of, outlet_signal, spread, input_signal, cell_signal}
-use Rattle.pulse_net.specs.RowValues.{row_values, outlet_value, PulsesAreRowValues, ReadsAreRowValues, input_value, stageless_value}
+use Rattle.pulse_net.specs.RowValues.{row_values, outlet_value, input_value, stageless_value}
+use Rattle.pulse_net.specs.Laws.{PulsesAreRowValues, ReadsAreRowValues}
 use Rattle.pulse_net.proofs.Windows.{pulsed_within-at_clock, pulsed_within-tick}
 use Rattle.pulse_net.specs.Wired.{ElementsInTime, OutletInTime, OutletsInTime}
 use Rattle.pulse_net.proofs.Unbroken.{wired}

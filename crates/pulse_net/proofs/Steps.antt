@@ -69,7 +69,7 @@ once-made : (wiring : Wiring) (wire stage : ℕ) → found wiring.made wire ≡ 
 once-made wiring wire stage new once =
     record {
       made = subst (IsDistinct nat_eq) (sym (map-append (λ (e : ℕ × ℕ). e.0) wiring.made ((wire, stage) ∷ []))) (IsDistinct-push nat_eq_equiv (keys_of wiring.made) wire once.made (keys_of-absent wiring.made wire new));
-      used = once.used
+      used = once.used;
     }
 
 once-used : (wiring : Wiring) (wire : ℕ) → is_among wiring.used wire ≡ false → IsOnce wiring → IsOnce (with_used wiring wire)
@@ -141,7 +141,7 @@ use_pins-ok phases user (pin ∷ pins) wiring after h =
       in_time = ((one.stage, one.free.made, one.in_time), subst (λ m. ArriveInTime phases m user pins) same rest.in_time);
       made = rest.made ∙ same;
       used = rest.used ∙ ap (λ (w : Wiring). w.used ++ pins) one.gives ∙ append_assoc wiring.used (pin ∷ []) pins;
-      once = λ o. rest.once (one.once o)
+      once = λ o. rest.once (one.once o);
     }
 
 -- an element uses its sources and makes its wires
@@ -160,7 +160,7 @@ wire_element-ok phases (Clocked cell stage pins out) wiring after h =
       in_time = all.in_time;
       made = ap (λ (w : Wiring). w.made) makes.gives ∙ ap (λ m. m ++ (out, stage) ∷ []) all.made;
       used = ap (λ (w : Wiring). w.used) makes.gives ∙ all.used;
-      once = λ o. makes.once (all.once o)
+      once = λ o. makes.once (all.once o);
     }
 wire_element-ok phases (Split from left right) wiring after h =
     let s = both_steps (source_stage wiring from) (λ stage. make_wire left stage (with_used wiring from) >>= make_wire right stage) after h in
@@ -173,7 +173,7 @@ wire_element-ok phases (Split from left right) wiring after h =
       in_time = (s.0, free.made);
       made = ap (λ (w : Wiring). w.made) two.gives ∙ ap (λ (w : Wiring). w.made ++ (right, s.0) ∷ []) one.gives ∙ append_assoc wiring.made ((left, s.0) ∷ []) ((right, s.0) ∷ []) ∙ ap (λ x. wiring.made ++ (left, x) ∷ ((right, x) ∷ [])) (sym stage);
       used = ap (λ (w : Wiring). w.used) two.gives ∙ ap (λ (w : Wiring). w.used) one.gives;
-      once = λ o. two.once (one.once (once-used wiring from free.unused o))
+      once = λ o. two.once (one.once (once-used wiring from free.unused o));
     }
 
 pub record WiresElements (phases : ℕ) (wiring : Wiring) (elements : List Element) (after : Wiring) : Type 0 where
@@ -193,7 +193,7 @@ wire_elements-ok phases place (element ∷ elements) wiring after h =
       in_time = (one.in_time, subst (λ m. ElementsInTime phases m elements) one.made rest.in_time);
       made = rest.made ∙ ap (λ m. after_elements 0 cell_stage m elements) one.made;
       used = rest.used ∙ ap (λ u. u ++ flat_map element_uses elements) one.used ∙ append_assoc wiring.used (element_uses element) (flat_map element_uses elements);
-      once = λ o. rest.once (one.once o)
+      once = λ o. rest.once (one.once o);
     }
 
 pub record WiresOutlet (phases user : ℕ) (wiring : Wiring) (outlet : Outlet) (after : Wiring) : Type 0 where
@@ -213,7 +213,7 @@ wire_output-ok phases latency (Wire wire) wiring after h =
       in_time = (one.stage, one.free.made, one.in_time);
       made = ap (λ (w : Wiring). w.made) one.gives;
       used = ap (λ (w : Wiring). w.used) one.gives;
-      once = one.once
+      once = one.once;
     }
 
 pub record WiresOutlets (phases user : ℕ) (wiring : Wiring) (outlets : List Outlet) (after : Wiring) : Type 0 where
@@ -233,7 +233,7 @@ wire_outputs-ok phases latency place (outlet ∷ outlets) wiring after h =
       in_time = (one.in_time, subst (λ m. OutletsInTime phases (phases * latency) m outlets) one.made rest.in_time);
       made = rest.made ∙ one.made;
       used = rest.used ∙ ap (λ u. u ++ flat_map outlet_uses outlets) one.used ∙ append_assoc wiring.used (outlet_uses outlet) (flat_map outlet_uses outlets);
-      once = λ o. rest.once (one.once o)
+      once = λ o. rest.once (one.once o);
     }
 
 pub record WiresInputs (place : ℕ) (inputs : List (Option ℕ)) (wiring after : Wiring) : Type 0 where
@@ -253,5 +253,5 @@ wire_inputs-ok place (Some wire ∷ inputs) wiring after h =
     record {
       made = rest.made ∙ ap (λ (w : Wiring). w.made ++ input_wires input_stage (place + 1) inputs) makes.gives ∙ append_assoc wiring.made ((wire, 0) ∷ []) (input_wires input_stage (place + 1) inputs);
       used = rest.used ∙ ap (λ (w : Wiring). w.used) makes.gives;
-      once = λ o. rest.once (makes.once o)
+      once = λ o. rest.once (makes.once o);
     }

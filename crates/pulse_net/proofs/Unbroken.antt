@@ -16,7 +16,8 @@ use Rattle.pulse_net.specs.declared.net.PulseNet.{PulseNet}
 use Rattle.pulse_net.specs.declared.fault.Place.TheVariants.{Input, Element as AtElement, Output}
 use Rattle.pulse_net.specs.Wires.{Wires, found, carried, input_wires, element_wires, after_elements, input_stage, cell_stage, stages_of, uses_of, element_uses, outlet_uses}
 use Rattle.pulse_net.specs.Validity.{Wiring, ◌>>=◌, at, is_among, made_once, make_wire, used_once, source_stage, is_gap, with_used, used_in_time, use_wire, use_pins, wire_element, wire_output, wire_inputs, wire_elements, wire_outputs, unwired, check_latency, has_wire, least_unused, close_at, close_wires, wiring_of}
-use Rattle.pulse_net.specs.Wired.{element_makes, makes_of, ArrivesInTime, ArriveInTime, ElementInTime, ElementsInTime, OutletInTime, OutletsInTime, IsWired, UnbrokenIsWired}
+use Rattle.pulse_net.specs.Wired.{element_makes, makes_of, ArrivesInTime, ArriveInTime, ElementInTime, ElementsInTime, OutletInTime, OutletsInTime, IsWired}
+use Rattle.pulse_net.specs.Laws.{UnbrokenIsWired}
 use Rattle.pulse_net.proofs.Once.{is_among-next, found-absent, keys-stages, keys-element, keys-inputs, least_unused-none, least_unused-used}
 use Rattle.pulse_net.proofs.Steps.{both_steps, with_made, IsOnce, WiresInputs, WiresElements, WiresOutlets, wire_inputs-ok, wire_elements-ok, wire_outputs-ok}
 
@@ -65,7 +66,7 @@ passes net wiring h =
       by_elements = wire_elements-ok n 0 net.elements b.0 c.0 b.2;
       by_outputs = wire_outputs-ok n net.latency 0 net.outputs c.0 d.0 c.2;
       latency = kept.0;
-      all_used = subst (λ (w : Wiring). least_unused w.used None (keys_of w.made) ≡ None) (sym kept.1) close.0
+      all_used = subst (λ (w : Wiring). least_unused w.used None (keys_of w.made) ≡ None) (sym kept.1) close.0;
     }
 
 module _ (net : PulseNet) (p : Passes net) where
@@ -94,7 +95,7 @@ module _ (net : PulseNet) (p : Passes net) where
         made_once = subst (IsDistinct nat_eq) all-made all-once.made;
         used_once = subst (IsDistinct nat_eq) all-used all-once.used;
         all_used = λ wire made. ap (λ u. is_among u wire) (sym all-used) ∙ used wire (ap (λ m. is_among m wire) all-made ∙ made);
-        latency = p.latency
+        latency = p.latency;
       }
 
 ok_value : {A E : Type 0} (r : Result A E) → IsOk r → (a : A) × (r ≡ Ok a)

@@ -4,4 +4,5 @@ pub mod Validity
 pub mod Pulses
 pub mod RowValues
 pub mod Wired
+pub mod Laws
 pub mod Refusals

@@ -19,7 +19,7 @@ Stops Stopped rules = ⊤
 Stops (Breaks cause) rules = rules ≡ Err cause
 
 -- what a step at a place answers
-abbrev pub stood_at : Place → Result Unit Stop → Result Unit ValidFault
-stood_at place (Ok u) = Ok u
-stood_at place (Err (Breaks cause)) = Err (Broken (record { place = place; cause = cause }))
-stood_at place (Err Stopped) = Err NoRoom
+abbrev pub placed : Place → Result Unit Stop → Result Unit ValidFault
+placed place (Ok u) = Ok u
+placed place (Err (Breaks cause)) = Err (Broken (record { place = place; cause = cause }))
+placed place (Err Stopped) = Err NoRoom

@@ -1,5 +1,5 @@
 -- The rules on wires said of the netlist as it stands: each wire is made once and used once, and each is read in time.
-use Rattle.std.specs.Prelude.{◌≡◌, ℕ, ◌+◌, ◌*◌, ◌<◌, ◌≤◌, ◌↔◌, ◌||◌, ◌==◌, List, [], ◌∷◌, ◌++◌, Some, IsOk, IsTrue, nat_eq, flat_map, option_to_list, ⊤}
+use Rattle.std.specs.Prelude.{◌≡◌, ℕ, ◌+◌, ◌*◌, ◌<◌, ◌≤◌, ◌||◌, ◌==◌, List, [], ◌∷◌, ◌++◌, Some, IsTrue, nat_eq, flat_map, option_to_list, ⊤}
 use Rattle.std.specs.List.{IsDistinct, list_any}
 use Rattle.pulse_net.specs.declared.net.Element.{Element}
 use Rattle.pulse_net.specs.declared.net.Element.TheVariants.{Clocked, Split}
@@ -7,7 +7,7 @@ use Rattle.pulse_net.specs.declared.net.Outlet.{Outlet}
 use Rattle.pulse_net.specs.declared.net.Outlet.TheVariants.{Zero, One, Wire}
 use Rattle.pulse_net.specs.declared.net.PulseNet.{PulseNet}
 use Rattle.pulse_net.specs.Wires.{Wires, found, input_wires, element_wires, input_stage, cell_stage, stages_of, uses_of}
-use Rattle.pulse_net.specs.Validity.{is_among, has_wire, wiring_of}
+use Rattle.pulse_net.specs.Validity.{is_among, has_wire}
 
 -- the wires that an element makes, from the left
 abbrev pub element_makes : Element → List ℕ
@@ -62,7 +62,3 @@ pub record IsWired (net : PulseNet) : Type 0 where
   pub used_once : IsDistinct nat_eq (uses_of net)
   pub all_used : (wire : ℕ) → IsTrue (is_among (makes_of net) wire) → IsTrue (is_among (uses_of net) wire)
   pub latency : IsTrue (net.latency == 1 || list_any has_wire net.outputs)
-
--- Law. No rule is broken exactly where a netlist is wired.
-abbrev pub UnbrokenIsWired : Type 0
-UnbrokenIsWired = (net : PulseNet) → IsOk (wiring_of net) ↔ IsWired net

@@ -40,7 +40,9 @@ pub enum Wrong {
 /// The first broken rule of a netlist.
 #[derive(Clone, Copy, Debug, PartialEq, Eq)]
 pub struct Invalid {
+    /// Where it is broken.
     pub place: Place,
+    /// Which rule it is.
     pub cause: Wrong,
 }
 
