@@ -4,7 +4,7 @@ ghost use Rattle.std.specs.Prelude.{◌≡◌, ◌<◌, ◌^◌, ◌↔◌, ◌+
 ghost use Rattle.std.specs.List.{list_any};
 ghost use Rattle.pulse_net.specs.Formed.{IsFormed};
 ghost use Rattle.pulse_net.specs.Validity.{at, wiring_of, wire_inputs, wire_elements, wire_outputs, check_latency, close_wires, has_wire};
-ghost use Rattle.pulse_net.specs.Refusals.{Fails, placed};
+ghost use Rattle.pulse_net.specs.Refusals.{Fails, ObeysRules, placed};
 
 use crate::fault::{Invalid, Place, Stop, ValidFault, Wrong};
 use crate::net::{Element, Outlet, PulseNet};
@@ -18,7 +18,9 @@ pub fn valid(alloc: Global, net: &PulseNet) -> Result<(), ValidFault>
     requires few_inputs { length net.now.inputs < 2 ^ 31 }
     requires few_elements { length net.now.elements < 2 ^ 31 }
     requires few_outputs { length net.now.outputs < 2 ^ 31 }
-    ensures { MatchResult result (λ _. IsOk (wiring_of net.now)) (λ fault. Fails fault (wiring_of net.now)) }
+    ensures { MatchResult result
+        (λ _. IsOk (wiring_of net.now))
+        (λ fault. Fails fault (wiring_of net.now)) }
 {
     let mut wires = Wires::new(alloc);
     pass_inputs(&mut wires, net.inputs.as_slice())?;
@@ -33,7 +35,7 @@ pub fn valid(alloc: Global, net: &PulseNet) -> Result<(), ValidFault>
 /// Each used input makes its wire.
 fn pass_inputs(wires: &mut Wires, inputs: &[Option<u32>]) -> Result<(), ValidFault>
     requires { length inputs.now < 2 ^ 31 }
-    ensures { MatchResult result (λ _. wire_inputs 0 inputs.now wires.old ≡ Ok wires.new) (λ fault. Fails fault (wire_inputs 0 inputs.now wires.old)) }
+    ensures { ObeysRules result (wire_inputs 0 inputs.now wires.old) wires.new }
 {
     for (place, input) in inputs.iter().enumerate() {
         if let Some(wire) = input {
@@ -46,7 +48,7 @@ fn pass_inputs(wires: &mut Wires, inputs: &[Option<u32>]) -> Result<(), ValidFau
 /// Each element uses its sources and makes its wires.
 fn pass_elements(wires: &mut Wires, phases: u32, elements: &[Element]) -> Result<(), ValidFault>
     requires { length elements.now < 2 ^ 31 }
-    ensures { MatchResult result (λ _. wire_elements phases 0 elements.now wires.old ≡ Ok wires.new) (λ fault. Fails fault (wire_elements phases 0 elements.now wires.old)) }
+    ensures { ObeysRules result (wire_elements phases 0 elements.now wires.old) wires.new }
 {
     for (place, element) in elements.iter().enumerate() {
         at_place(
@@ -66,7 +68,7 @@ fn pass_outputs(
 ) -> Result<(), ValidFault>
     requires few { length outputs.now < 2 ^ 31 }
     requires phases { phases < 256 }
-    ensures { MatchResult result (λ _. wire_outputs phases latency 0 outputs.now wires.old ≡ Ok wires.new) (λ fault. Fails fault (wire_outputs phases latency 0 outputs.now wires.old)) }
+    ensures { ObeysRules result (wire_outputs phases latency 0 outputs.now wires.old) wires.new }
 {
     for (place, outlet) in outputs.iter().enumerate() {
         at_place(
@@ -93,7 +95,9 @@ fn has_some_wire(outputs: &[Outlet]) -> bool
 
 /// At the end each wire is used.
 fn close(wires: &Wires) -> Result<(), ValidFault>
-    ensures { MatchResult result (λ _. IsOk (close_wires wires.now)) (λ fault. Fails fault (close_wires wires.now)) }
+    ensures { MatchResult result
+        (λ _. IsOk (close_wires wires.now))
+        (λ fault. Fails fault (close_wires wires.now)) }
 {
     match wires.least_unused() {
         None => Ok(()),

@@ -1,9 +1,9 @@
 //! The wires that a netlist made and used so far: the rules of one wire, and of the wires of one element.
 
-ghost use Rattle.std.specs.Prelude.{◌≡◌, ◌<◌, ◌^◌, false, Ok, OnOk, MatchResult, None};
+ghost use Rattle.std.specs.Prelude.{◌≡◌, ◌<◌, ◌^◌, false, OnOk, None};
 ghost use Rattle.std.specs.Map.{keys_of};
 ghost use Rattle.pulse_net.specs.Validity.{Wiring, unwired, is_among, make_wire, source_stage, with_used, use_wire, use_pins, wire_element, wire_output, is_gap, least_unused, with_unused, lesser};
-ghost use Rattle.pulse_net.specs.Refusals.{Stops};
+ghost use Rattle.pulse_net.specs.Refusals.{ObeysRule};
 
 use crate::fault::{Stop, Wrong};
 use crate::net::{Element, Outlet};
@@ -39,7 +39,7 @@ impl Wires {
 
     /// Makes a wire at a stage.
     pub(crate) fn make(&mut self, wire: u32, stage: u32) -> Result<(), Stop>
-        ensures { MatchResult result (λ _. make_wire wire stage self.old ≡ Ok self.new) (λ stop. Stops stop (make_wire wire stage self.old)) }
+        ensures { ObeysRule result (make_wire wire stage self.old) self.new }
     {
         if self.made.contains_key(&wire) {
             return Err(Stop::Wrong(Wrong::MadeTwice(wire)));
@@ -71,7 +71,7 @@ impl Wires {
     /// Uses a wire at a stage, that of the user.
     fn use_wire(&mut self, phases: u32, user: u64, wire: u32) -> Result<(), Stop>
         requires { user < 2 ^ 40 }
-        ensures { MatchResult result (λ _. use_wire phases user wire self.old ≡ Ok self.new) (λ stop. Stops stop (use_wire phases user wire self.old)) }
+        ensures { ObeysRule result (use_wire phases user wire self.old) self.new }
     {
         let stage = self.source_stage(wire)?;
         if !is_gap(phases, stage, user) {
@@ -83,7 +83,7 @@ impl Wires {
 
     /// Uses the pins of a cell from the left.
     fn use_pins(&mut self, phases: u32, user: u32, pins: &[u32]) -> Result<(), Stop>
-        ensures { MatchResult result (λ _. use_pins phases user pins.now self.old ≡ Ok self.new) (λ stop. Stops stop (use_pins phases user pins.now self.old)) }
+        ensures { ObeysRule result (use_pins phases user pins.now self.old) self.new }
     {
         for pin in pins {
             self.use_wire(phases, u64::from(user), *pin)?;
@@ -93,7 +93,7 @@ impl Wires {
 
     /// An element uses its pins, and then makes its outputs.
     pub(crate) fn pass_element(&mut self, phases: u32, element: &Element) -> Result<(), Stop>
-        ensures { MatchResult result (λ _. wire_element phases element.now self.old ≡ Ok self.new) (λ stop. Stops stop (wire_element phases element.now self.old)) }
+        ensures { ObeysRule result (wire_element phases element.now self.old) self.new }
     {
         match element {
             Element::Clocked {
@@ -122,7 +122,7 @@ impl Wires {
         outlet: Outlet,
     ) -> Result<(), Stop>
         requires { phases < 256 }
-        ensures { MatchResult result (λ _. wire_output phases latency outlet self.old ≡ Ok self.new) (λ stop. Stops stop (wire_output phases latency outlet self.old)) }
+        ensures { ObeysRule result (wire_output phases latency outlet self.old) self.new }
     {
         match outlet {
             Outlet::Zero | Outlet::One => Ok(()),
