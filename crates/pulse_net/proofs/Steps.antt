@@ -1,6 +1,11 @@
 -- What each step of the rules says where it breaks none.
-use Rattle.std.proofs.Common.{◌≡◌, ℕ, ◌+◌, ◌<◌, ◌≤◌, Bool, true, false, ◌&&◌, List, [], ◌∷◌, ◌++◌, map, refl, sym, ap, subst, ◌∙◌, append_assoc, arith}
-use Rattle.std.proofs.lemmas.List.{append-nil}
+use Rattle.std.proofs.Common.{◌≡◌, ℕ, ◌+◌, Bool, true, false, List, [], ◌∷◌, ◌++◌, refl, sym, ap, subst, ◌∙◌, append_assoc}
+use Rattle.std.proofs.lemmas.List.{append-nil, map-append}
+use Rattle.std.proofs.lemmas.Map.Keys.{IsDistinct-push}
+use Rattle.std.specs.List.{IsDistinct}
+use Rattle.std.specs.Map.{keys_of}
+use Rattle.std.specs.Cmp.{nat_eq_equiv}
+use Rattle.std.specs.Prelude.{nat_eq, cond, ◌||◌}
 use Rattle.std.specs.Prelude.{Option, Some, None, Result, Ok, Err, nat_lt, nat_le, unwrap_or, flat_map, ◌*◌}
 use Rattle.std.proofs.lemmas.Bool.{and_parts, ltb-true, leb-true}
 use Rattle.pulse_net.specs.declared.net.Element.{Element}
@@ -11,6 +16,7 @@ use Rattle.pulse_net.specs.declared.fault.Place.{Place}
 use Rattle.pulse_net.specs.declared.fault.Place.TheVariants.{Input, Element as AtElement, Output}
 use Rattle.pulse_net.specs.declared.fault.Wrong.{Wrong}
 use Rattle.pulse_net.specs.Wires.{Wires, found, carried, input_wires, element_wires, after_elements, input_stage, cell_stage, element_uses, outlet_uses}
+use Rattle.pulse_net.specs.Wired.{IsInTime, ArriveInTime, ElementInTime, ElementsInTime, OutletInTime, OutletsInTime}
 use Rattle.pulse_net.specs.Validity.{Wiring, ◌>>=◌, at, is_among, made_once, make_wire, used_once, source_stage, is_gap, with_used, used_in_time, use_wire, use_pins, wire_element, wire_elements, wire_output, wire_outputs, wire_inputs}
 
 -- two steps: both break no rule
@@ -23,6 +29,11 @@ pub at-ok : {A : Type 0} (place : Place) (r : Result A Wrong) (a : A) → at pla
 at-ok place (Ok x) a h = cc
 at-ok place (Err e) a h = cc
 
+-- so far no wire is made twice, and none is used twice
+pub record IsOnce (wiring : Wiring) : Type 0 where
+  pub made : IsDistinct nat_eq (keys_of wiring.made)
+  pub used : IsDistinct nat_eq wiring.used
+
 abbrev same_result : Type 0 → Wiring → Wiring → Type 0
 same_result E wiring after = let before : Result Wiring E = Ok wiring in before ≡ Ok after
 
@@ -30,31 +41,52 @@ same_result E wiring after = let before : Result Wiring E = Ok wiring in before 
 ok_made : {E : Type 0} {wiring after : Wiring} → same_result E wiring after → after.made ≡ wiring.made
 ok_made h = cc
 
+ok_once : {E : Type 0} {wiring after : Wiring} → same_result E wiring after → IsOnce wiring → IsOnce after
+ok_once {E} {wiring} {after} h once = let same : wiring ≡ after = cc in subst IsOnce same once
+
 ok_used : {E : Type 0} {wiring after : Wiring} → same_result E wiring after → after.used ≡ wiring.used
 ok_used h = cc
+
+-- a wire that isn't found is not among the wires
+pub keys_of-absent : {A : Type 0} (wires : Wires A) (wire : ℕ) → found wires wire ≡ None → is_among (keys_of wires) wire ≡ false
+keys_of-absent [] wire h = refl
+keys_of-absent (one ∷ wires) wire h = by (nat_eq wire one.0) (keys_of-absent wires wire) h
+  where
+    by : (here : Bool) → (found wires wire ≡ None → is_among (keys_of wires) wire ≡ false) → cond here (Some one.1) (found wires wire) ≡ None → (here || is_among (keys_of wires) wire) ≡ false
+    by true rest e = cc
+    by false rest e = rest e
 
 -- a wiring in which one more wire is made
 abbrev pub with_made : Wiring → ℕ → ℕ → Wiring
 with_made wiring wire stage = record { made = wiring.made ++ (wire, stage) ∷ []; used = wiring.used }
-
--- the stage of a gap's end: 1 to n ticks past its beginning
-pub record IsInTime (phases stage user : ℕ) : Type 0 where
-  pub after : stage < user
-  pub within : user ≤ stage + phases
 
 is_gap-true : (phases stage user : ℕ) → is_gap phases stage user ≡ true → IsInTime phases stage user
 is_gap-true phases stage user h =
     let parts = and_parts (nat_lt stage user) (nat_le user (stage + phases)) h in
     record { after = ltb-true stage user parts.0; within = leb-true user (stage + phases) parts.1 }
 
+once-made : (wiring : Wiring) (wire stage : ℕ) → found wiring.made wire ≡ None → IsOnce wiring → IsOnce (with_made wiring wire stage)
+once-made wiring wire stage new once =
+    record {
+      made = subst (IsDistinct nat_eq) (sym (map-append (λ (e : ℕ × ℕ). e.0) wiring.made ((wire, stage) ∷ []))) (IsDistinct-push nat_eq_equiv (keys_of wiring.made) wire once.made (keys_of-absent wiring.made wire new));
+      used = once.used;
+    }
+
+once-used : (wiring : Wiring) (wire : ℕ) → is_among wiring.used wire ≡ false → IsOnce wiring → IsOnce (with_used wiring wire)
+once-used wiring wire unused once =
+    record { made = once.made; used = IsDistinct-push nat_eq_equiv wiring.used wire once.used unused }
+
 -- a wire is made that was not made before
 pub record Makes (wiring : Wiring) (wire stage : ℕ) (after : Wiring) : Type 0 where
   pub new : found wiring.made wire ≡ None
   pub gives : after ≡ with_made wiring wire stage
+  pub once : IsOnce wiring → IsOnce after
 
 made_once-ok : (wiring : Wiring) (wire stage : ℕ) (before : Option ℕ) (after : Wiring) → found wiring.made wire ≡ before → made_once wiring wire stage before ≡ Ok after → Makes wiring wire stage after
 made_once-ok wiring wire stage (Some x) after e h = cc
-made_once-ok wiring wire stage None after e h = record { new = e; gives = cc }
+made_once-ok wiring wire stage None after e h =
+    let gives : after ≡ with_made wiring wire stage = cc in
+    record { new = e; gives = gives; once = λ o. subst IsOnce (sym gives) (once-made wiring wire stage e o) }
 
 pub make_wire-ok : (wiring : Wiring) (wire stage : ℕ) (after : Wiring) → make_wire wire stage wiring ≡ Ok after → Makes wiring wire stage after
 make_wire-ok wiring wire stage after h = made_once-ok wiring wire stage (found wiring.made wire) after refl h
@@ -78,10 +110,12 @@ pub record Uses (phases user : ℕ) (wiring : Wiring) (wire : ℕ) (after : Wiri
   pub free : IsFree wiring wire stage
   pub in_time : IsInTime phases stage user
   pub gives : after ≡ with_used wiring wire
+  pub once : IsOnce wiring → IsOnce after
 
 used_in_time-ok : (phases : ℕ) (wiring : Wiring) (wire stage user : ℕ) (ok : Bool) (after : Wiring) → is_gap phases stage user ≡ ok → IsFree wiring wire stage → used_in_time wiring wire stage user ok ≡ Ok after → Uses phases user wiring wire after
 used_in_time-ok phases wiring wire stage user true after e free h =
-    record { stage = stage; free = free; in_time = is_gap-true phases stage user e; gives = cc }
+    let gives : after ≡ with_used wiring wire = cc in
+    record { stage = stage; free = free; in_time = is_gap-true phases stage user e; gives = gives; once = λ o. subst IsOnce (sym gives) (once-used wiring wire free.unused o) }
 used_in_time-ok phases wiring wire stage user false after e free h = cc
 
 pub use_wire-ok : (phases user wire : ℕ) (wiring after : Wiring) → use_wire phases user wire wiring ≡ Ok after → Uses phases user wiring wire after
@@ -89,20 +123,15 @@ use_wire-ok phases user wire wiring after h =
     let s = both_steps (source_stage wiring wire) (λ stage. used_in_time wiring wire stage user (is_gap phases stage user)) after h in
     used_in_time-ok phases wiring wire s.0 user (is_gap phases s.0 user) after refl (source_stage-ok wiring wire s.0 s.1) s.2
 
--- each pin is on a wire that was made 1 to n ticks before
-abbrev pub ArriveInTime : ℕ → Wires ℕ → ℕ → List ℕ → Type 0
-ArriveInTime phases made user [] = Unit {0}
-ArriveInTime phases made user (pin ∷ pins) =
-    ((stage : ℕ) × (found made pin ≡ Some stage) × IsInTime phases stage user) × ArriveInTime phases made user pins
-
 -- the pins of a cell are used
 pub record UsesAll (phases user : ℕ) (wiring : Wiring) (pins : List ℕ) (after : Wiring) : Type 0 where
   pub in_time : ArriveInTime phases wiring.made user pins
   pub made : after.made ≡ wiring.made
   pub used : after.used ≡ wiring.used ++ pins
+  pub once : IsOnce wiring → IsOnce after
 
 pub use_pins-ok : (phases user : ℕ) (pins : List ℕ) (wiring after : Wiring) → use_pins phases user pins wiring ≡ Ok after → UsesAll phases user wiring pins after
-use_pins-ok phases user [] wiring after h = record { in_time = tt; made = ok_made h; used = ok_used h ∙ sym (append-nil wiring.used) }
+use_pins-ok phases user [] wiring after h = record { in_time = tt; made = ok_made h; used = ok_used h ∙ sym (append-nil wiring.used); once = ok_once h }
 use_pins-ok phases user (pin ∷ pins) wiring after h =
     let s = both_steps (use_wire phases user pin wiring) (use_pins phases user pins) after h in
     let one = use_wire-ok phases user pin wiring s.0 s.1 in
@@ -111,19 +140,16 @@ use_pins-ok phases user (pin ∷ pins) wiring after h =
     record {
       in_time = ((one.stage, one.free.made, one.in_time), subst (λ m. ArriveInTime phases m user pins) same rest.in_time);
       made = rest.made ∙ same;
-      used = rest.used ∙ ap (λ (w : Wiring). w.used ++ pins) one.gives ∙ append_assoc wiring.used (pin ∷ []) pins
+      used = rest.used ∙ ap (λ (w : Wiring). w.used ++ pins) one.gives ∙ append_assoc wiring.used (pin ∷ []) pins;
+      once = λ o. rest.once (one.once o);
     }
-
--- the sources of an element were made, those of a clocked cell 1 to n ticks before
-abbrev pub ElementInTime : ℕ → Wires ℕ → Element → Type 0
-ElementInTime phases made (Clocked cell stage pins out) = ArriveInTime phases made stage pins
-ElementInTime phases made (Split from left right) = (stage : ℕ) × (found made from ≡ Some stage)
 
 -- an element uses its sources and makes its wires
 pub record WiresElement (phases : ℕ) (wiring : Wiring) (element : Element) (after : Wiring) : Type 0 where
   pub in_time : ElementInTime phases wiring.made element
   pub made : after.made ≡ wiring.made ++ element_wires 0 cell_stage wiring.made element
   pub used : after.used ≡ wiring.used ++ element_uses element
+  pub once : IsOnce wiring → IsOnce after
 
 pub wire_element-ok : (phases : ℕ) (element : Element) (wiring after : Wiring) → wire_element phases element wiring ≡ Ok after → WiresElement phases wiring element after
 wire_element-ok phases (Clocked cell stage pins out) wiring after h =
@@ -133,7 +159,8 @@ wire_element-ok phases (Clocked cell stage pins out) wiring after h =
     record {
       in_time = all.in_time;
       made = ap (λ (w : Wiring). w.made) makes.gives ∙ ap (λ m. m ++ (out, stage) ∷ []) all.made;
-      used = ap (λ (w : Wiring). w.used) makes.gives ∙ all.used
+      used = ap (λ (w : Wiring). w.used) makes.gives ∙ all.used;
+      once = λ o. makes.once (all.once o);
     }
 wire_element-ok phases (Split from left right) wiring after h =
     let s = both_steps (source_stage wiring from) (λ stage. make_wire left stage (with_used wiring from) >>= make_wire right stage) after h in
@@ -145,23 +172,19 @@ wire_element-ok phases (Split from left right) wiring after h =
     record {
       in_time = (s.0, free.made);
       made = ap (λ (w : Wiring). w.made) two.gives ∙ ap (λ (w : Wiring). w.made ++ (right, s.0) ∷ []) one.gives ∙ append_assoc wiring.made ((left, s.0) ∷ []) ((right, s.0) ∷ []) ∙ ap (λ x. wiring.made ++ (left, x) ∷ ((right, x) ∷ [])) (sym stage);
-      used = ap (λ (w : Wiring). w.used) two.gives ∙ ap (λ (w : Wiring). w.used) one.gives
+      used = ap (λ (w : Wiring). w.used) two.gives ∙ ap (λ (w : Wiring). w.used) one.gives;
+      once = λ o. two.once (one.once (once-used wiring from free.unused o));
     }
-
--- the sources of all elements in order
-abbrev pub ElementsInTime : ℕ → Wires ℕ → List Element → Type 0
-ElementsInTime phases made [] = Unit {0}
-ElementsInTime phases made (element ∷ elements) =
-    ElementInTime phases made element × ElementsInTime phases (made ++ element_wires 0 cell_stage made element) elements
 
 pub record WiresElements (phases : ℕ) (wiring : Wiring) (elements : List Element) (after : Wiring) : Type 0 where
   pub in_time : ElementsInTime phases wiring.made elements
   pub made : after.made ≡ after_elements 0 cell_stage wiring.made elements
   pub used : after.used ≡ wiring.used ++ flat_map element_uses elements
+  pub once : IsOnce wiring → IsOnce after
 
 pub wire_elements-ok : (phases place : ℕ) (elements : List Element) (wiring after : Wiring) → wire_elements phases place elements wiring ≡ Ok after → WiresElements phases wiring elements after
 wire_elements-ok phases place [] wiring after h =
-    record { in_time = tt; made = ok_made h; used = ok_used h ∙ sym (append-nil wiring.used) }
+    record { in_time = tt; made = ok_made h; used = ok_used h ∙ sym (append-nil wiring.used); once = ok_once h }
 wire_elements-ok phases place (element ∷ elements) wiring after h =
     let s = both_steps (at (AtElement place) (wire_element phases element wiring)) (wire_elements phases (place + 1) elements) after h in
     let one = wire_element-ok phases element wiring s.0 (at-ok (AtElement place) (wire_element phases element wiring) s.0 s.1) in
@@ -169,45 +192,39 @@ wire_elements-ok phases place (element ∷ elements) wiring after h =
     record {
       in_time = (one.in_time, subst (λ m. ElementsInTime phases m elements) one.made rest.in_time);
       made = rest.made ∙ ap (λ m. after_elements 0 cell_stage m elements) one.made;
-      used = rest.used ∙ ap (λ u. u ++ flat_map element_uses elements) one.used ∙ append_assoc wiring.used (element_uses element) (flat_map element_uses elements)
+      used = rest.used ∙ ap (λ u. u ++ flat_map element_uses elements) one.used ∙ append_assoc wiring.used (element_uses element) (flat_map element_uses elements);
+      once = λ o. rest.once (one.once o);
     }
-
--- each output that isn't constant is on a wire that was made 1 to n ticks before it is read
-abbrev pub OutletInTime : ℕ → ℕ → Wires ℕ → Outlet → Type 0
-OutletInTime phases user made Zero = Unit {0}
-OutletInTime phases user made One = Unit {0}
-OutletInTime phases user made (Wire wire) = (stage : ℕ) × (found made wire ≡ Some stage) × IsInTime phases stage user
-
-abbrev pub OutletsInTime : ℕ → ℕ → Wires ℕ → List Outlet → Type 0
-OutletsInTime phases user made [] = Unit {0}
-OutletsInTime phases user made (outlet ∷ outlets) = OutletInTime phases user made outlet × OutletsInTime phases user made outlets
 
 pub record WiresOutlet (phases user : ℕ) (wiring : Wiring) (outlet : Outlet) (after : Wiring) : Type 0 where
   pub in_time : OutletInTime phases user wiring.made outlet
   pub made : after.made ≡ wiring.made
   pub used : after.used ≡ wiring.used ++ outlet_uses outlet
+  pub once : IsOnce wiring → IsOnce after
 
 pub wire_output-ok : (phases latency : ℕ) (outlet : Outlet) (wiring after : Wiring) → wire_output phases latency outlet wiring ≡ Ok after → WiresOutlet phases (phases * latency) wiring outlet after
 wire_output-ok phases latency Zero wiring after h =
-    record { in_time = tt; made = ok_made h; used = ok_used h ∙ sym (append-nil wiring.used) }
+    record { in_time = tt; made = ok_made h; used = ok_used h ∙ sym (append-nil wiring.used); once = ok_once h }
 wire_output-ok phases latency One wiring after h =
-    record { in_time = tt; made = ok_made h; used = ok_used h ∙ sym (append-nil wiring.used) }
+    record { in_time = tt; made = ok_made h; used = ok_used h ∙ sym (append-nil wiring.used); once = ok_once h }
 wire_output-ok phases latency (Wire wire) wiring after h =
     let one = use_wire-ok phases (phases * latency) wire wiring after h in
     record {
       in_time = (one.stage, one.free.made, one.in_time);
       made = ap (λ (w : Wiring). w.made) one.gives;
-      used = ap (λ (w : Wiring). w.used) one.gives
+      used = ap (λ (w : Wiring). w.used) one.gives;
+      once = one.once;
     }
 
 pub record WiresOutlets (phases user : ℕ) (wiring : Wiring) (outlets : List Outlet) (after : Wiring) : Type 0 where
   pub in_time : OutletsInTime phases user wiring.made outlets
   pub made : after.made ≡ wiring.made
   pub used : after.used ≡ wiring.used ++ flat_map outlet_uses outlets
+  pub once : IsOnce wiring → IsOnce after
 
 pub wire_outputs-ok : (phases latency place : ℕ) (outlets : List Outlet) (wiring after : Wiring) → wire_outputs phases latency place outlets wiring ≡ Ok after → WiresOutlets phases (phases * latency) wiring outlets after
 wire_outputs-ok phases latency place [] wiring after h =
-    record { in_time = tt; made = ok_made h; used = ok_used h ∙ sym (append-nil wiring.used) }
+    record { in_time = tt; made = ok_made h; used = ok_used h ∙ sym (append-nil wiring.used); once = ok_once h }
 wire_outputs-ok phases latency place (outlet ∷ outlets) wiring after h =
     let s = both_steps (at (Output place) (wire_output phases latency outlet wiring)) (wire_outputs phases latency (place + 1) outlets) after h in
     let one = wire_output-ok phases latency outlet wiring s.0 (at-ok (Output place) (wire_output phases latency outlet wiring) s.0 s.1) in
@@ -215,23 +232,26 @@ wire_outputs-ok phases latency place (outlet ∷ outlets) wiring after h =
     record {
       in_time = (one.in_time, subst (λ m. OutletsInTime phases (phases * latency) m outlets) one.made rest.in_time);
       made = rest.made ∙ one.made;
-      used = rest.used ∙ ap (λ u. u ++ flat_map outlet_uses outlets) one.used ∙ append_assoc wiring.used (outlet_uses outlet) (flat_map outlet_uses outlets)
+      used = rest.used ∙ ap (λ u. u ++ flat_map outlet_uses outlets) one.used ∙ append_assoc wiring.used (outlet_uses outlet) (flat_map outlet_uses outlets);
+      once = λ o. rest.once (one.once o);
     }
 
 pub record WiresInputs (place : ℕ) (inputs : List (Option ℕ)) (wiring after : Wiring) : Type 0 where
   pub made : after.made ≡ wiring.made ++ input_wires input_stage place inputs
   pub used : after.used ≡ wiring.used
+  pub once : IsOnce wiring → IsOnce after
 
 pub wire_inputs-ok : (place : ℕ) (inputs : List (Option ℕ)) (wiring after : Wiring) → wire_inputs place inputs wiring ≡ Ok after → WiresInputs place inputs wiring after
 wire_inputs-ok place [] wiring after h =
-    record { made = ok_made h ∙ sym (append-nil wiring.made); used = ok_used h }
+    record { made = ok_made h ∙ sym (append-nil wiring.made); used = ok_used h; once = ok_once h }
 wire_inputs-ok place (None ∷ inputs) wiring after h =
-    let rest = wire_inputs-ok (place + 1) inputs wiring after h in record { made = rest.made; used = rest.used }
+    let rest = wire_inputs-ok (place + 1) inputs wiring after h in record { made = rest.made; used = rest.used; once = rest.once }
 wire_inputs-ok place (Some wire ∷ inputs) wiring after h =
     let s = both_steps (at (Input place) (make_wire wire 0 wiring)) (wire_inputs (place + 1) inputs) after h in
     let makes = make_wire-ok wiring wire 0 s.0 (at-ok (Input place) (make_wire wire 0 wiring) s.0 s.1) in
     let rest = wire_inputs-ok (place + 1) inputs s.0 after s.2 in
     record {
       made = rest.made ∙ ap (λ (w : Wiring). w.made ++ input_wires input_stage (place + 1) inputs) makes.gives ∙ append_assoc wiring.made ((wire, 0) ∷ []) (input_wires input_stage (place + 1) inputs);
-      used = rest.used ∙ ap (λ (w : Wiring). w.used) makes.gives
+      used = rest.used ∙ ap (λ (w : Wiring). w.used) makes.gives;
+      once = λ o. rest.once (makes.once o);
     }

@@ -6,6 +6,7 @@ use Rattle.pulse_net.specs.declared.net.Element.TheVariants.{Clocked, Split}
 use Rattle.pulse_net.specs.declared.net.Outlet.{Outlet}
 use Rattle.pulse_net.specs.declared.net.Outlet.TheVariants.{Zero}
 use Rattle.pulse_net.specs.declared.net.PulseNet.{PulseNet}
+use Rattle.pulse_net.specs.declared.net.TheConstants.{MAX_PHASES}
 
 -- a clocked element has as many pins as its cell
 abbrev pub HasItsPins : Element → Type 0
@@ -15,7 +16,7 @@ HasItsPins (Split from left right) = ⊤
 -- a netlist is formed: 1 to 16 phases, a latency of at least 1, each cell has its pins, and each input and output has its name
 pub record IsFormed (net : PulseNet) : Type 0 where
   pub some_phases : 1 ≤ net.phases
-  pub few_phases : net.phases ≤ 16
+  pub few_phases : net.phases ≤ MAX_PHASES
   pub latency : 1 ≤ net.latency
   pub pins : All HasItsPins net.elements
   pub inputs : length net.inputs ≡ length net.names.inputs

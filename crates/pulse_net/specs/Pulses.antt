@@ -65,4 +65,5 @@ spread phases (row ∷ rows) = row ∷ (replicate (phases - 1) (silent_row row) 
 -- the value read at an output for row c: a pulse in the n ticks before tick n * (c + E), where E is the latency
 abbrev pub value_read : PulseNet → List (List Bool) → ℕ → ℕ → Bool
 value_read net rows output row =
-    pulsed_within (outlet_signal net.phases (signals_of net (spread net.phases rows)) (outlet_at net output)) (net.phases * (row + net.latency)) net.phases
+    let signals = signals_of net (spread net.phases rows) in
+    pulsed_within (outlet_signal net.phases signals (outlet_at net output)) (net.phases * (row + net.latency)) net.phases

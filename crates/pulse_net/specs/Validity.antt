@@ -1,6 +1,7 @@
 -- The rules on the wires of a netlist, and the first that is broken.
 use Rattle.std.specs.Prelude.{ℕ, ◌+◌, ◌*◌, Bool, true, false, ◌&&◌, ◌||◌, List, [], ◌∷◌, ◌++◌, Option, Some, None, Result, Ok, Err, IsOk, if◌then◌else◌, ◌==◌, nat_lt, nat_le, pos, ◌-ℤ◌}
 use Rattle.std.specs.List.{list_any}
+use Rattle.std.specs.Map.{keys_of}
 use Rattle.pulse_net.specs.declared.net.Element.{Element}
 use Rattle.pulse_net.specs.declared.net.Element.TheVariants.{Clocked, Split}
 use Rattle.pulse_net.specs.declared.net.Outlet.{Outlet}
@@ -32,7 +33,7 @@ at place (Err cause) = Err (record { place = place; cause = cause })
 
 -- a wire is among these
 abbrev pub is_among : List ℕ → ℕ → Bool
-is_among wires wire = list_any (λ other. other == wire) wires
+is_among wires wire = list_any (λ other. wire == other) wires
 
 -- a wire may be made once
 abbrev pub made_once : Wiring → ℕ → ℕ → Option ℕ → Result Wiring Wrong
@@ -121,11 +122,14 @@ abbrev pub lesser : ℕ → Option ℕ → ℕ
 lesser wire None = wire
 lesser wire (Some other) = if nat_lt wire other then wire else other
 
--- the least wire that is made and isn't used
-abbrev pub least_unused : Wires ℕ → List ℕ → Option ℕ
-least_unused [] used = None
-least_unused (made ∷ wires) used =
-    if is_among used made.0 then least_unused wires used else Some (lesser made.0 (least_unused wires used))
+-- the least wire so far, with this one if it isn't used
+abbrev pub with_unused : List ℕ → ℕ → Option ℕ → Option ℕ
+with_unused used wire least = if is_among used wire then least else Some (lesser wire least)
+
+-- the least of these wires that isn't used, or the one found before
+abbrev pub least_unused : List ℕ → Option ℕ → List ℕ → Option ℕ
+least_unused used least [] = least
+least_unused used least (wire ∷ wires) = least_unused used (with_unused used wire least) wires
 
 -- at the end each wire is used
 abbrev pub close_at : Wiring → Option ℕ → Result Wiring Invalid
@@ -133,12 +137,16 @@ close_at wiring None = Ok wiring
 close_at wiring (Some wire) = at Close (Err (Unused wire))
 
 abbrev pub close_wires : Wiring → Result Wiring Invalid
-close_wires wiring = close_at wiring (least_unused wiring.made wiring.used)
+close_wires wiring = close_at wiring (least_unused wiring.used None (keys_of wiring.made))
+
+-- nothing is made, and nothing is used
+abbrev pub unwired : Wiring
+unwired = record { made = []; used = [] }
 
 -- The wiring of a netlist, or the first rule that is broken: in inputs, elements, outputs, the latency, and at the close.
 abbrev pub wiring_of : PulseNet → Result Wiring Invalid
 wiring_of net =
-    wire_inputs 0 net.inputs (record { made = []; used = [] })
+    wire_inputs 0 net.inputs unwired
     >>= wire_elements net.phases 0 net.elements
     >>= wire_outputs net.phases net.latency 0 net.outputs
     >>= check_latency net.latency (net.latency == 1 || list_any has_wire net.outputs)

@@ -1,5 +1,6 @@
 -- What each wire of a netlist carries: one fold, whatever it is that the wires carry.
-use Rattle.std.specs.Prelude.{ℕ, ◌+◌, List, [], ◌∷◌, ◌++◌, map, Option, Some, None, if◌then◌else◌, ◌==◌, unwrap_or, flat_map}
+use Rattle.std.specs.Prelude.{ℕ, ◌+◌, List, [], ◌∷◌, ◌++◌, map, Option, Some, None, nat_eq, unwrap_or, flat_map}
+use Rattle.std.specs.Map.{lookup}
 use Rattle.cell_lib.specs.declared.cell.Cell.{Cell}
 use Rattle.pulse_net.specs.declared.net.Element.{Element}
 use Rattle.pulse_net.specs.declared.net.Element.TheVariants.{Clocked, Split}
@@ -13,8 +14,7 @@ Wires A = List (ℕ × A)
 
 -- what a wire carries, if it was made
 abbrev pub found : {A : Type 0} → Wires A → ℕ → Option A
-found [] wire = None
-found (made ∷ wires) wire = if made.0 == wire then Some made.1 else found wires wire
+found wires wire = lookup (nat_eq wire) wires
 
 -- what a wire carries, or else `absent`
 abbrev pub carried : {A : Type 0} → A → Wires A → ℕ → A

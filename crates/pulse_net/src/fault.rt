@@ -1,5 +1,10 @@
 //! What can be wrong with a netlist: a place and a kind.
 
+ghost use Rattle.std.specs.Prelude.{◌≡◌};
+ghost use Rattle.pulse_net.specs.declared.fault.Stop.TheVariants.{Wrong, NoMemory};
+
+use std::alloc::AllocFailed;
+
 /// Where a netlist breaks a rule. Places are counted from 0.
 #[derive(Clone, Copy, Debug, PartialEq, Eq)]
 pub enum Place {
@@ -35,6 +40,42 @@ pub enum Wrong {
 /// The first broken rule of a netlist.
 #[derive(Clone, Copy, Debug, PartialEq, Eq)]
 pub struct Invalid {
+    /// Where it is broken.
     pub place: Place,
+    /// Which rule it is.
     pub cause: Wrong,
+}
+
+/// Why a netlist isn't found valid.
+#[derive(Clone, Copy, Debug, PartialEq, Eq)]
+pub enum ValidFault {
+    /// It breaks this rule, and none before.
+    Invalid(Invalid),
+    /// Want of memory, which says nothing of the netlist.
+    NoMemory,
+}
+
+/// Why a step of the rules stops, wherever it stands.
+#[derive(Clone, Copy, Debug, PartialEq, Eq)]
+pub(crate) enum Stop {
+    /// It breaks this rule.
+    Wrong(Wrong),
+    /// Want of memory.
+    NoMemory,
+}
+
+impl From<Wrong> for Stop {
+    ghost from_gives = { λ cause stop. stop ≡ Wrong cause };
+
+    fn from(cause: Wrong) -> Stop {
+        Stop::Wrong(cause)
+    }
+}
+
+impl<T: Drop> From<AllocFailed<T>> for Stop {
+    ghost from_gives = { λ _ stop. stop ≡ NoMemory };
+
+    fn from(_failed: AllocFailed<T>) -> Stop {
+        Stop::NoMemory
+    }
 }

@@ -3,11 +3,17 @@
 use cell_lib::Cell;
 use net_base::{List, Name};
 
+/// The clock phases of a netlist at most: more than four are rare, and sixteen leave room.
+pub const MAX_PHASES: u32 = 16;
+
 /// The names of a netlist: its model, and one for each input and each output, in order.
 #[derive(Debug, Drop)]
 pub struct Names {
+    /// The name of the model.
     pub model: Name,
+    /// A name for each input.
     pub inputs: List<Name>,
+    /// A name for each output.
     pub outputs: List<Name>,
 }
 
@@ -16,6 +22,7 @@ pub struct Names {
 pub enum Element {
     /// A cell that waits for its clock.
     Clocked {
+        /// What it computes of its pins.
         cell: Cell,
         /// The tick of its first clock: phases * epoch + phase.
         stage: u32,
@@ -49,6 +56,7 @@ pub enum Outlet {
 /// A netlist of pulse elements.
 #[derive(Debug, Drop)]
 pub struct PulseNet {
+    /// What its model, inputs and outputs are called.
     pub names: Names,
     /// Clock phases, 1 to 16: the ticks of an epoch.
     pub phases: u32,
@@ -58,5 +66,6 @@ pub struct PulseNet {
     pub inputs: List<Option<u32>>,
     /// Drivers stand before their users.
     pub elements: List<Element>,
+    /// What stands at each output.
     pub outputs: List<Outlet>,
 }

@@ -1,0 +1,5 @@
+use Rattle.pulse_net.proofs.Law.{reads_are_row_values}
+use Rattle.pulse_net.proofs.laws.reads_are_row_values.Goals as goal
+
+pub returns : goal.returns
+returns c = reads_are_row_values

@@ -1,0 +1,5 @@
+use Rattle.pulse_net.proofs.Unbroken.{unbroken_is_wired}
+use Rattle.pulse_net.proofs.laws.unbroken_is_wired.Goals as goal
+
+pub returns : goal.returns
+returns c = unbroken_is_wired

@@ -1,0 +1,26 @@
+//! What the rules and the pulses mean, as laws on every netlist. A law takes nothing and does nothing: its clause is the law.
+
+ghost use Rattle.pulse_net.specs.Laws.{NamesTheLeast, PulsesAreRowValues, ReadsAreRowValues, UnbrokenIsWired};
+
+/// No rule is broken exactly where each wire is made once and used once, each element's sources are made before it, and
+/// each pin and each output is read 1 to n ticks after its wire's stage, for n phases; and where the latency is 1 if no
+/// output has a wire.
+pub fn unbroken_is_wired()
+    ensures { UnbrokenIsWired }
+{}
+
+/// Of the wires that are made and aren't used, the least is named.
+pub fn least_unused_is_named()
+    ensures { NamesTheLeast }
+{}
+
+/// In a valid netlist with n phases, under one row of inputs per n ticks, a wire of stage s pulses only at ticks that are
+/// s modulo n, and at tick n * c + s it pulses exactly where its value over row c is true.
+pub fn pulses_are_row_values()
+    ensures { PulsesAreRowValues }
+{}
+
+/// In a valid netlist the value read at an output for row c is the output's value over row c.
+pub fn reads_are_row_values()
+    ensures { ReadsAreRowValues }
+{}
