@@ -82,11 +82,41 @@ mod tests {
     }
 
     const ROWS: [Row; 5] = [
-        Row { cell: Cell::Dro, pins: 1, rank: 0, junctions: 6, values: [false, false, true, true] },
-        Row { cell: Cell::Not, pins: 1, rank: 1, junctions: 9, values: [true, true, false, false] },
-        Row { cell: Cell::And, pins: 2, rank: 2, junctions: 11, values: [false, false, false, true] },
-        Row { cell: Cell::Or, pins: 2, rank: 3, junctions: 9, values: [false, true, true, true] },
-        Row { cell: Cell::Xor, pins: 2, rank: 4, junctions: 11, values: [false, true, true, false] },
+        Row {
+            cell: Cell::Dro,
+            pins: 1,
+            rank: 0,
+            junctions: 6,
+            values: [false, false, true, true],
+        },
+        Row {
+            cell: Cell::Not,
+            pins: 1,
+            rank: 1,
+            junctions: 9,
+            values: [true, true, false, false],
+        },
+        Row {
+            cell: Cell::And,
+            pins: 2,
+            rank: 2,
+            junctions: 11,
+            values: [false, false, false, true],
+        },
+        Row {
+            cell: Cell::Or,
+            pins: 2,
+            rank: 3,
+            junctions: 9,
+            values: [false, true, true, true],
+        },
+        Row {
+            cell: Cell::Xor,
+            pins: 2,
+            rank: 4,
+            junctions: 11,
+            values: [false, true, true, false],
+        },
     ];
 
     #[test]

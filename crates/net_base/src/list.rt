@@ -98,7 +98,7 @@ impl<T: PartialEq> PartialEq for List<T> {
     ghost laws = { lists_per T.PartialEq.laws };
 
     fn eq(&self, other: &List<T>) -> bool {
-        self.items.as_slice() == other.items.as_slice()
+        self.as_slice() == other.as_slice()
     }
 }
 

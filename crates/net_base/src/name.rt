@@ -74,7 +74,7 @@ impl PartialEq for Name {
     ghost laws = { partial_equiv_from_equiv nat_list_eq_equiv };
 
     fn eq(&self, other: &Name) -> bool {
-        self.bytes.as_slice() == other.bytes.as_slice()
+        self.bytes() == other.bytes()
     }
 }
 
@@ -94,7 +94,7 @@ impl Hash for Name {
 
 impl fmt::Display for Name {
     fn fmt<W: fmt::Write>(&self, f: &mut fmt::Formatter<W>) -> fmt::Result {
-        match str::from_utf8(self.bytes.as_slice()) {
+        match str::from_utf8(self.bytes()) {
             Ok(text) => f.write_str(text),
             Err(_) => Err(fmt::Error),
         }

@@ -1,0 +1,3 @@
+mod Examples
+mod Windows
+pub mod Steps

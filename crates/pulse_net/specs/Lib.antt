@@ -1,0 +1,5 @@
+pub mod Formed
+pub mod Wires
+pub mod Validity
+pub mod Pulses
+pub mod RowValues
