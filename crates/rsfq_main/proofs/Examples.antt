@@ -22,8 +22,8 @@ two_tables =
       inputs = codes "a" ∷ codes "b" ∷ [];
       outputs = codes "f" ∷ [];
       tables =
-        record { cell = Not; pins = codes "b" ∷ []; target = codes "c" }
-        ∷ record { cell = And; pins = codes "a" ∷ codes "c" ∷ []; target = codes "f" } ∷ [];
+          record { cell = Not; pins = codes "b" ∷ []; target = codes "c" }
+          ∷ record { cell = And; pins = codes "a" ∷ codes "c" ∷ []; target = codes "f" } ∷ [];
     }
 
 text_of_two_tables : plain_design (codes ".model t\n.inputs a b\n.outputs f\n.names b c\n0 1\n.names a c f\n11 1\n.end\n") ≡ Some two_tables
