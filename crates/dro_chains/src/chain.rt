@@ -1,13 +1,14 @@
 //! The chains of a gate netlist.
 
-ghost use Rattle.std.specs.Prelude.{◌≡◌, ◌≤◌, ◌<◌, IfOk, IfErr, sum};
+ghost use Rattle.std.specs.Prelude.{◌≡◌, ◌≤◌, ◌<◌, ◌↔◌, IsTrue, IfOk, IfErr, sum};
+ghost use Rattle.gate_net.specs.Net.{IsGateNet};
 ghost use Rattle.flow_net.specs.Network.{network_of};
 ghost use Rattle.flow_net.specs.Epochs.{dro_count};
 ghost use Rattle.dro_chains.specs.Chains.{CanChain, chained_of, Refuses};
 ghost use Rattle.dro_chains.specs.declared.chain.ChainFault.TheVariants.{NoMemory as OutOfMemory};
 
-use crate::parts::{chain_lengths, needs, stages, total};
-use flow_net::{Epochs, net_of};
+use crate::parts::{chain_lengths, do_stages_fit, needs, stages, total};
+use flow_net::{Epochs, MAX_PINS, net_of, pin_count};
 use gate_net::GateNet;
 use net_base::{List, NoMemory};
 use std::alloc::Global;
@@ -52,6 +53,19 @@ impl From<NoMemory> for ChainFault {
     }
 }
 
+/// Whether the chains of a well-formed netlist can be told: it has a network, an epoch per gate, and each stage and the
+/// latency fit 32 bits.
+pub fn can_chain(gates: &GateNet, phases: &List<u32>, n: u32, epochs: &Epochs) -> bool
+    requires { IsGateNet gates.now }
+    ensures { IsTrue result ↔ CanChain gates.now phases.now n epochs.now }
+{
+    phases.len() == gates.gates.len()
+        && pin_count(gates) < MAX_PINS
+        && epochs.gates.len() == gates.gates.len()
+        && do_stages_fit(n, epochs.gates.as_slice(), phases.as_slice())
+        && u64::from(n) * u64::from(epochs.sink) < 1 << 32
+}
+
 /// The chains of DROs behind the drivers of a netlist whose gates have these phases and epochs.
 pub fn chains(
     alloc: Global,
@@ -87,7 +101,6 @@ pub fn chains(
 mod tests {
     use super::*;
     use cell_lib::Cell;
-    use flow_net::pin_count;
     use gate_net::{Driver, End};
     use std::test::Fail;
 

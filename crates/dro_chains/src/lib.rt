@@ -15,5 +15,7 @@
 
 mod chain;
 mod parts;
+#[cfg(test)]
+mod tests;
 
-pub use chain::{ChainFault, Chained, MAX_DROS, chains};
+pub use chain::{ChainFault, Chained, MAX_DROS, can_chain, chains};

@@ -1,6 +1,6 @@
 //! The parts of chains: lengths, needs and stages.
 
-ghost use Rattle.std.specs.Prelude.{◌≡◌, ◌<◌, ◌^◌, ◌==◌, ℕ, IfOk, length, map, sum, max, cond, slice_index};
+ghost use Rattle.std.specs.Prelude.{◌≡◌, ◌<◌, ◌^◌, ◌==◌, ◌↔◌, ℕ, IsTrue, IfOk, length, map, sum, max, cond, slice_index};
 ghost use Rattle.phase_rule.specs.Stages.{stage_of};
 ghost use Rattle.flow_net.specs.Epochs.{need_of, chain_lengths as lengths_of};
 ghost use Rattle.dro_chains.specs.Chains.{stages_of};
@@ -57,6 +57,19 @@ pub(crate) fn needs(alloc: Global, epochs: &Epochs, pins: &[Pin]) -> Result<Vec<
         needs.push(need(epochs, pin))?;
     }
     Ok(needs)
+}
+
+/// Whether each stage fits 32 bits.
+pub(crate) fn do_stages_fit(n: u32, epochs: &[u32], phases: &[u32]) -> bool
+    requires { length phases.now ≡ length epochs.now }
+    ensures { IsTrue result ↔ ((k : ℕ) → k < length epochs.now → stage_of n (slice_index epochs.now k) (slice_index phases.now k) < 2 ^ 32) }
+{
+    for i in 0..epochs.len() {
+        if u64::from(n) * u64::from(epochs[i]) + u64::from(phases[i]) >= 1 << 32 {
+            return false;
+        }
+    }
+    true
 }
 
 /// The stage of each gate.
