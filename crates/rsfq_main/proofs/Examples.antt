@@ -1,5 +1,5 @@
 -- Small texts, words and a netlist by hand, with what the definitions say of them by evaluation: a false definition fails here.
-use Rattle.std.proofs.Common.{◌≡◌, ℕ, List, [], ◌∷◌, Option, Some, None, codes, refl}
+use Rattle.std.proofs.Common.{◌≡◌, [], ◌∷◌, Some, None, codes, refl}
 use Rattle.std.specs.Fmt.{digits}
 use Rattle.cell_lib.specs.declared.cell.Cell.TheVariants.{Dro, Not, And}
 use Rattle.pulse_net.specs.declared.net.Element.TheVariants.{Clocked, Split}

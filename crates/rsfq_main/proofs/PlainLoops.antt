@@ -1,5 +1,5 @@
 -- One turn of the loops that read names and tables: what is read, behind what was read before, stays the whole.
-use Rattle.std.proofs.Common.{◌≡◌, ℕ, zero, suc, ◌+◌, List, [], ◌∷◌, ◌++◌, Option, Some, None, refl, sym, ap, ◌∙◌, append_assoc, codes}
+use Rattle.std.proofs.Common.{◌≡◌, ℕ, zero, suc, List, [], ◌∷◌, ◌++◌, Option, Some, None, refl, sym, ap, append_assoc, codes}
 use Rattle.rsfq_main.specs.declared.design.Table.{Table}
 use Rattle.rsfq_main.specs.PlainRules.{◌>>=◌}
 use Rattle.rsfq_main.specs.PlainForm.{after, name_at, names_at, ended_at, behind_names, with_name, table_at, tables_of, end_of, behind_tables, with_table}

@@ -1,6 +1,6 @@
 -- What stands at the front of a plain text is a name: letters, digits and underscores are bytes of a name.
-use Rattle.std.proofs.Common.{◌≡◌, ℕ, ◌≤◌, ◌<◌, true, List, length, take, get_or, arith, subst, sym}
-use Rattle.std.specs.List.{prefix_len, All}
+use Rattle.std.proofs.Common.{◌≡◌, ℕ, ◌≤◌, ◌<◌, true, List, length, take, get_or, arith}
+use Rattle.std.specs.List.{prefix_len}
 use Rattle.std.proofs.lemmas.List.Sums.{prefix_len-le-length, prefix_len_passes}
 use Rattle.std.proofs.lemmas.Bool.Decides.{nat_tests}
 use Rattle.std.proofs.lemmas.List.{length-take-le, get_or-take}

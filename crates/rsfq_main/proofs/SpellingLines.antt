@@ -1,5 +1,5 @@
 -- One turn of the loops that write the lines of inputs and outputs, and their end.
-use Rattle.std.proofs.Common.{◌≡◌, ℕ, suc, ◌+◌, ◌≤◌, ◌<◌, List, [], ◌∷◌, ◌++◌, length, drop, get_or, min, Option, Some, codes, refl, sym, ap, ◌∙◌, arith, add-one, drop-cons, length-drop, ◌⊎◌, inl, inr}
+use Rattle.std.proofs.Common.{◌≡◌, ℕ, suc, ◌+◌, ◌≤◌, ◌<◌, List, [], ◌∷◌, ◌++◌, length, drop, min, Option, Some, codes, refl, ap, ◌∙◌, arith, add-one, drop-cons, length-drop}
 use Rattle.std.specs.List.{slice_get}
 use Rattle.std.proofs.lemmas.Option.{slice_get_within, get_or_from_slice_get}
 use Rattle.pulse_net.specs.declared.net.Outlet.{Outlet}

@@ -1,5 +1,5 @@
 -- How a reader of the code answers for a definition of the plain form.
-use Rattle.std.specs.Prelude.{◌≡◌, List, ℕ, Option, Some, None, Result, Ok, Err}
+use Rattle.std.specs.Prelude.{◌≡◌, Option, Some, None, Result, Ok, Err}
 use Rattle.rsfq_main.specs.declared.plain.PlainFault.{PlainFault}
 use Rattle.rsfq_main.specs.declared.plain.PlainFault.TheVariants.{NotPlain, NoMemory}
 

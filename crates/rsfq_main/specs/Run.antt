@@ -1,12 +1,10 @@
 -- What a run answers, and what it leaves in its source, its sink and its notes. A text is None where the source doesn't tell it.
-use Rattle.std.specs.Prelude.{ℕ, ◌≡◌, ◌+◌, ◌≤◌, ◌<◌, List, [], length, take, drop, Option, Some, None, if◌then◌else◌, nat_lt, is_some, ◌⊎◌}
+use Rattle.std.specs.Prelude.{ℕ, ◌≡◌, ◌+◌, ◌≤◌, List, [], length, take, drop, Option, Some, None, if◌then◌else◌, nat_lt, is_some, ◌⊎◌}
 use Rattle.io_edge.specs.Sink.{Gains}
-use Rattle.io_edge.specs.WriteAll.{FailedOrStalled}
 use Rattle.rsfq_main.specs.declared.status.Status.{Status}
-use Rattle.rsfq_main.specs.declared.status.Status.TheVariants.{Done, Refused, Usage, ReadFault, WriteFault, NoMemory, No}
+use Rattle.rsfq_main.specs.declared.status.Status.TheVariants.{Done, Refused, Usage, ReadFault, WriteFault, NoMemory}
 use Rattle.rsfq_main.specs.declared.fault.Refusal.{Refusal}
 use Rattle.rsfq_main.specs.declared.fault.Refusal.TheVariants.{TooLong, NotYet}
-use Rattle.rsfq_main.specs.declared.fault.Fault.{Fault}
 use Rattle.rsfq_main.specs.declared.fault.Fault.TheVariants as faults
 use Rattle.rsfq_main.specs.declared.run.TheConstants.{MAX_TEXT_BYTES}
 use Rattle.rsfq_main.specs.PlainForm.{plain_design}

@@ -1,4 +1,4 @@
-use Rattle.std.proofs.Common.{arith, subst}
+use Rattle.std.proofs.Common.{arith}
 use Rattle.std.proofs.lemmas.List.Sums.{prefix_len-le-length}
 use Rattle.rsfq_main.specs.PlainForm.{is_plain_byte}
 use Rattle.rsfq_main.proofs.PlainNames.{IsName-plain}

@@ -1,4 +1,4 @@
-use Rattle.std.proofs.Common.{◌≡◌, ℕ, suc, ◌-◌, ◌+◌, ◌++◌, ◌∷◌, [], arith, sym, ap, subst, ◌∙◌, None, Err, refl}
+use Rattle.std.proofs.Common.{◌≡◌, suc, ◌-◌, ◌+◌, arith, sym, ap, ◌∙◌, Err, refl}
 use Rattle.std.proofs.lemmas.Result.{err_from_is_err_and}
 use Rattle.rsfq_main.specs.PlainForm.{name_at, names_at, behind_names, ended_at}
 use Rattle.rsfq_main.proofs.PlainExits.{Gives-same, Gives-fault}

@@ -1,4 +1,4 @@
-use Rattle.std.proofs.Common.{◌≡◌, ℕ, suc, ◌-◌, ◌+◌, ◌++◌, ◌∷◌, [], arith, sym, ap, subst, ◌∙◌, None, Err, refl}
+use Rattle.std.proofs.Common.{◌≡◌, suc, ◌-◌, ◌+◌, arith, sym, ap, ◌∙◌, Err, refl}
 use Rattle.std.proofs.lemmas.Result.{err_from_is_err_and}
 use Rattle.rsfq_main.specs.declared.plain.TheConstants.{MAX_PLAIN_TABLES}
 use Rattle.rsfq_main.specs.PlainForm.{table_at, tables_of, behind_tables, end_of}

@@ -1,5 +1,4 @@
-use Rattle.std.proofs.Common.{◌≡◌, ◌++◌, [], arith, sym, ap, ◌∙◌, append_assoc, append-nil}
-use Rattle.rsfq_main.specs.Spelling.{input_lines}
+use Rattle.std.proofs.Common.{◌++◌, arith, sym, ap, ◌∙◌, append_assoc, append-nil}
 use Rattle.rsfq_main.proofs.SpellingLines.{input_lines-step, input_lines-end}
 use Rattle.rsfq_main.proofs.spelling.push_inputs.Goals as goal
 

@@ -1,5 +1,4 @@
-use Rattle.std.proofs.Common.{◌≡◌, ◌++◌, [], arith, sym, ap, ◌∙◌, append_assoc, append-nil}
-use Rattle.rsfq_main.specs.Spelling.{output_lines}
+use Rattle.std.proofs.Common.{◌++◌, arith, sym, ap, ◌∙◌, append_assoc, append-nil}
 use Rattle.rsfq_main.proofs.SpellingLines.{output_lines-step, output_lines-end}
 use Rattle.rsfq_main.proofs.spelling.push_outputs.Goals as goal
 
