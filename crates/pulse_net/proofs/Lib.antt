@@ -7,3 +7,8 @@ pub mod Unbroken
 mod Carried
 pub mod Law
 mod Tables
+pub mod Driven
+mod Agree
+mod Traced
+mod Unfolds
+pub mod GateLaw

@@ -24,6 +24,8 @@ mod laws;
 mod net;
 #[cfg(test)]
 mod tests;
+mod trace;
+mod unfolding;
 mod validity;
 mod wires;
 
@@ -31,4 +33,5 @@ pub use fault::{Invalid, Place, ValidFault, Wrong};
 pub use formed::is_formed;
 pub use laws::{pulses_are_row_values, reads_are_row_values, unbroken_is_wired};
 pub use net::{Element, MAX_PHASES, Names, Outlet, PulseNet};
+pub use unfolding::{Unfolded, unfold};
 pub use validity::valid;
