@@ -27,6 +27,8 @@ mod net;
 mod tests;
 mod trace;
 mod unfolding;
+#[cfg(test)]
+mod unfolding_tests;
 mod validity;
 mod wires;
 
