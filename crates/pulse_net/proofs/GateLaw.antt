@@ -19,7 +19,7 @@ use Rattle.pulse_net.specs.Validity.{IsValid}
 use Rattle.pulse_net.specs.Wired.{element_makes, OutletsInTime}
 use Rattle.pulse_net.specs.RowValues.{row_values, outlet_value}
 use Rattle.pulse_net.specs.Laws.{row_of, spread_signal}
-use Rattle.pulse_net.specs.Unfolding.{Unfolding, end_of, phases_of, epochs_of, nothing_unfolded, unfolding_of, unfolded_from, unfolded, gate_wires}
+use Rattle.pulse_net.specs.Unfolding.{Unfolding, end_of, phases_of, epochs_of, nothing_unfolded, unfold_inputs, unfolding_of, unfolded_from, unfolded, gate_wires}
 use Rattle.pulse_net.specs.GatePulses.{GatePulses, PulsesAreGateValues}
 use Rattle.pulse_net.proofs.Once.{keys-inputs}
 use Rattle.pulse_net.proofs.Unbroken.{wired}
@@ -69,7 +69,7 @@ is_gate_net net valid few many =
     }
   where
     few_gates : length (unfolding_of net).gates < 2 ^ 31
-    few_gates = omega (arith, gates-elements net.elements _, ap length (gates-inputs net.inputs 0 nothing_unfolded))
+    few_gates = omega (arith, gates-elements net.elements (unfold_inputs 0 net.inputs nothing_unfolded), ap length (gates-inputs net.inputs 0 nothing_unfolded))
 
 -- a stage is n epochs and a phase
 stage-parts : (n stage epoch phase : ℕ) → 1 ≤ n → epoch ≡ stage / n → phase ≡ stage % n → n * epoch + phase ≡ stage

@@ -13,3 +13,4 @@ mod Agree
 mod Traced
 mod Unfolds
 pub mod GateLaw
+mod UnfoldExamples
