@@ -1,19 +1,17 @@
 -- In a valid netlist the unfolded gates are a gate netlist, and the pulses are the values of the gates.
 use Rattle.std.proofs.Common.{◌≡◌, ◌<◌, ◌≤◌, ◌+◌, ◌*◌, ◌/◌, ◌%◌, ◌^◌, ℕ, zero, suc, Bool, false, nat_eq, List, [], ◌∷◌, ◌++◌, length, map, get_or, refl, sym, ap, subst, ◌∙◌, arith}
-use Rattle.std.specs.Prelude.{Option, unwrap_or, flat_map, Result, Ok, Err, IfOk}
+use Rattle.std.specs.Prelude.{unwrap_or, flat_map, Result, Ok, Err, IfOk}
 use Rattle.std.specs.List.{IsDistinct, AllByRecursion}
 use Rattle.std.proofs.lemmas.List.{length-map, get_or-map}
 use Rattle.std.proofs.lemmas.List.Elements.{All-from_recursion, recursion_from_All}
-use Rattle.gate_net.specs.declared.row.End.{End}
 use Rattle.gate_net.specs.declared.row.End.TheVariants as ends
 use Rattle.gate_net.specs.Net.{IsEndThere, IsGateNet}
-use Rattle.gate_net.specs.Values.{gate_values, end_value}
-use Rattle.pulse_net.specs.declared.net.Element.{Element}
+use Rattle.gate_net.specs.Values.{end_value}
 use Rattle.pulse_net.specs.declared.net.Outlet.{Outlet}
 use Rattle.pulse_net.specs.declared.net.Outlet.TheVariants.{Zero, One, Wire}
 use Rattle.pulse_net.specs.declared.net.PulseNet.{PulseNet}
 use Rattle.pulse_net.specs.declared.unfolding.Unfolded.{Unfolded}
-use Rattle.pulse_net.specs.Formed.{HasItsPins, outlet_at}
+use Rattle.pulse_net.specs.Formed.{HasItsPins}
 use Rattle.pulse_net.specs.Wires.{Wires, stages_of}
 use Rattle.pulse_net.specs.Validity.{IsValid}
 use Rattle.pulse_net.specs.Wired.{element_makes, OutletsInTime}

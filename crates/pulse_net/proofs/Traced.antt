@@ -1,5 +1,5 @@
 -- The gates of a netlist against its wires, as far as it is unfolded: what is known, and one gate more.
-use Rattle.std.proofs.Common.{◌≡◌, ◌<◌, ◌≤◌, ◌+◌, ◌⊎◌, inl, inr, ℕ, Bool, true, false, cond, nat_eq, List, [], ◌∷◌, ◌++◌, length, get_or, refl, sym, ap, ◌∙◌, arith}
+use Rattle.std.proofs.Common.{◌≡◌, ◌<◌, ◌≤◌, ◌⊎◌, inl, inr, ℕ, Bool, true, false, cond, nat_eq, List, [], ◌∷◌, ◌++◌, length, get_or, sym, ap, ◌∙◌, arith}
 use Rattle.std.specs.Prelude.{Option, Some, None}
 use Rattle.std.specs.Cmp.{nat_eq_equiv}
 use Rattle.std.proofs.lemmas.Bool.{cases_lt}
@@ -68,10 +68,13 @@ module _ (inputs : ℕ) (bits : List Bool) where
     where
       value : Bool
       value = gate_value bits (values_by bits gates) row
+
       before_out : (k : ℕ) → k < length gates → get_or (outs ++ out ∷ []) k 0 ≡ get_or outs k 0
       before_out k before = get_or_append_left outs (out ∷ []) 0 k (omega (arith, h.each_wire))
+
       last_out : (k : ℕ) → length gates ≡ k → get_or (outs ++ out ∷ []) k 0 ≡ out
       last_out k last = get_or_push outs out 0 k (omega (arith, h.each_wire))
+
       at_stage : (k : ℕ) → k < length (gates ++ row ∷ []) → (k < length gates) ⊎ (length gates ≤ k) → found (a ++ (out, stage) ∷ []) (get_or (outs ++ out ∷ []) k 0) ≡ Some (get_or (stages ++ stage ∷ []) k 0)
       at_stage k within (inl before) =
           let same : get_or (stages ++ stage ∷ []) k 0 ≡ get_or stages k 0 = get_or_append_left stages (stage ∷ []) 0 k (omega (arith, h.each_stage)) in
@@ -80,6 +83,7 @@ module _ (inputs : ℕ) (bits : List Bool) where
           let last : length gates ≡ k = omega (arith, length_push gates row) in
           let same : get_or (stages ++ stage ∷ []) k 0 ≡ stage = get_or_push stages stage 0 k (omega (arith, h.each_stage)) in
           ap (found (a ++ (out, stage) ∷ [])) (last_out k last) ∙ found-new a out stage no_stage ∙ ap Some (sym same)
+
       at_value : (k : ℕ) → k < length (gates ++ row ∷ []) → (k < length gates) ⊎ (length gates ≤ k) → found (b ++ (out, gate_value bits (values_by bits gates) row) ∷ []) (get_or (outs ++ out ∷ []) k 0) ≡ Some (get_or (values_by bits (gates ++ row ∷ [])) k false)
       at_value k within (inl before) =
           ap (found (b ++ (out, value) ∷ [])) (before_out k before) ∙ found-append b ((out, value) ∷ []) (get_or outs k 0) (get_or (values_by bits gates) k false) (h.valued k before) ∙ ap Some (sym (value-more inputs bits gates row k before))

@@ -9,15 +9,13 @@ use Rattle.gate_net.specs.declared.row.Driver.TheVariants as drivers
 use Rattle.gate_net.specs.declared.row.End.{End}
 use Rattle.gate_net.specs.declared.row.End.TheVariants as ends
 use Rattle.gate_net.specs.declared.row.GateRow.{GateRow}
-use Rattle.gate_net.specs.declared.net.GateNet.{GateNet}
-use Rattle.flow_net.specs.declared.net.Epochs.{Epochs}
 use Rattle.pulse_net.specs.declared.net.Element.{Element}
 use Rattle.pulse_net.specs.declared.net.Element.TheVariants.{Clocked, Split}
 use Rattle.pulse_net.specs.declared.net.Outlet.{Outlet}
 use Rattle.pulse_net.specs.declared.net.Outlet.TheVariants.{Zero, One, Wire}
 use Rattle.pulse_net.specs.declared.net.PulseNet.{PulseNet}
 use Rattle.pulse_net.specs.declared.unfolding.Unfolded.{Unfolded}
-use Rattle.pulse_net.specs.Wires.{Wires, found, carried, input_wires}
+use Rattle.pulse_net.specs.Wires.{Wires, found, carried}
 
 -- What is known when some elements are unfolded: the driver of each wire so far, the gates with their stages in order,
 -- and the driver of each DRO passed.

@@ -121,11 +121,7 @@ impl Trace {
     }
 
     /// What the outputs give, in order.
-    pub(crate) fn ends_of(
-        &self,
-        alloc: Global,
-        outlets: &[Outlet],
-    ) -> Result<List<End>, NoMemory>
+    pub(crate) fn ends_of(&self, alloc: Global, outlets: &[Outlet]) -> Result<List<End>, NoMemory>
         ensures { IfOk result (λ ends. ends ≡ map (end_of self.now.wires) outlets.now) }
     {
         ends_of(alloc, &self.wires, outlets)
