@@ -89,7 +89,7 @@ fn unfold_valid(alloc: Global, net: &PulseNet) -> Result<Unfolded, Fail> {
     Ok(unfold(alloc, net)?)
 }
 
-const ROWS: [Row; 5] = [
+static ROWS: [Row; 5] = [
     // A and not b, with one phase: a waits in a DRO.
     Row {
         phases: 1,
@@ -183,6 +183,11 @@ const ROWS: [Row; 5] = [
     },
 ];
 
+// A call hides the rows from the proofs of the tests, which need not look at them.
+fn rows() -> &'static [Row] {
+    &ROWS
+}
+
 fn gates_of(alloc: Global, row: &Row) -> Result<List<GateRow>, Fail> {
     let mut gates = List::new(alloc);
     for (cell, pins) in row.gates {
@@ -207,7 +212,7 @@ fn is_as_wanted(unfolded: &Unfolded, row: &Row, gates: &List<GateRow>) -> bool {
 
 #[test]
 fn pins_are_traced_back_to_their_drivers(rt: HostRuntime) -> Result<(), Fail> {
-    for (place, row) in ROWS.iter().enumerate() {
+    for (place, row) in rows().iter().enumerate() {
         let net = net_of(rt.alloc(), row)?;
         let unfolded = unfold_valid(rt.alloc(), &net)?;
         let gates = gates_of(rt.alloc(), row)?;
@@ -232,20 +237,22 @@ fn two_hundred_thousand_elements_are_soon_unfolded(rt: HostRuntime) -> Result<()
         })?;
     }
     let ends = Row {
-        latency: LENGTH + 1,
-        output: Outlet::Wire(LENGTH),
-        inputs: 1,
         phases: 1,
-        ..ROWS[1]
+        latency: LENGTH + 1,
+        inputs: 1,
+        parts: &[],
+        output: Outlet::Wire(LENGTH),
+        gates: &[],
+        end: End::From(Driver::Gate(99_999)),
+        phase_of_each: &[],
+        epoch_of_each: &[],
+        dros: 100_000,
     };
     let mut net = net_of(alloc, &ends)?;
     net.elements = elements;
     let unfolded = unfold_valid(alloc, &net)?;
     assert_eq!(rt; unfolded.gates.gates.len(), 100_000);
-    assert_eq!(rt; unfolded.dros, 100_000);
-    assert_eq!(rt;
-        unfolded.gates.outputs.as_slice(),
-        [End::From(Driver::Gate(99_999))].as_slice()
-    );
+    assert_eq!(rt; unfolded.dros, ends.dros);
+    assert_eq!(rt; unfolded.gates.outputs.as_slice(), [ends.end].as_slice());
     Ok(())
 }
