@@ -8,3 +8,9 @@ mod Least
 mod Carried
 pub mod Law
 mod Tables
+pub mod Driven
+mod Agree
+mod Traced
+mod Unfolds
+pub mod GateLaw
+mod UnfoldExamples

@@ -6,3 +6,5 @@ pub mod RowValues
 pub mod Wired
 pub mod Laws
 pub mod Refusals
+pub mod Unfolding
+pub mod GatePulses

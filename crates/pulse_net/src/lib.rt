@@ -1,4 +1,4 @@
-//! Netlists of pulse elements: when they are valid, and the pulses that run on them.
+//! Netlists of pulse elements: when they are valid, the pulses that run on them, and the gates that they unfold to.
 //!
 //! A netlist has inputs, elements in order and outputs, joined by wires that go by number. An element is a clocked cell
 //! at a stage, the tick of its first clock, or a splitter, which has no clock. With n phases an epoch has n ticks, and a
@@ -10,13 +10,17 @@
 //! `unbroken_is_wired` says the rules once more, of the netlist as it stands, and `least_unused_is_named` which wire is
 //! named at the close. `pulses_are_row_values` and `reads_are_row_values` say that in a valid netlist what pulses, and
 //! what is read at the outputs, is what the cells compute of each row of inputs, for every number of phases and every
-//! list of rows. Only `valid` takes memory.
+//! list of rows. `unfold` answers the gates of a valid netlist, each pin traced back through DROs and splitters (`value`);
+//! they are a gate netlist (`net`), each gate's wire pulses as the gate is valued, and each output is read so (`pulses`).
+//! Only `valid` and `unfold` take memory.
 //! Not promised: that a chip behaves so. There are no picoseconds, bias currents or clock skew in this model.
 //!
 //! Read `specs/Formed.antt` and `specs/Validity.antt` for the rules in order, `specs/Wires.antt` for the fold that says
 //! what each wire carries, `specs/Pulses.antt` for signals and readings, `specs/RowValues.antt` for values without ticks,
-//! and `specs/Laws.antt` for what is proved. `proofs/Examples.antt` evaluates the definitions on netlists made by hand.
-//! Central proofs: the window lemma (`proofs/Windows.antt`), and the induction over elements (`proofs/Carried.antt`).
+//! and `specs/Laws.antt` for what is proved; `specs/Unfolding.antt` for the gates, and `specs/GatePulses.antt` for their
+//! law. `proofs/Examples.antt` and `proofs/UnfoldExamples.antt` evaluate the definitions on netlists made by hand.
+//! Central proofs: the window lemma (`proofs/Windows.antt`), and the inductions over elements, for pulses against values
+//! (`proofs/Carried.antt`) and for values against gates (`proofs/Unfolds.antt`).
 #![tactic(auto)]
 
 mod fault;
@@ -25,6 +29,10 @@ mod laws;
 mod net;
 #[cfg(test)]
 mod tests;
+mod trace;
+mod unfolding;
+#[cfg(test)]
+mod unfolding_tests;
 mod validity;
 mod wires;
 
@@ -34,4 +42,5 @@ pub use laws::{
     least_unused_is_named, pulses_are_row_values, reads_are_row_values, unbroken_is_wired,
 };
 pub use net::{Element, MAX_PHASES, Names, Outlet, PulseNet};
+pub use unfolding::{Unfolded, unfold};
 pub use validity::valid;

@@ -1,0 +1,121 @@
+//! The gates that a netlist unfolds to.
+
+ghost use Rattle.std.specs.Prelude.{◌≡◌, ◌<◌, ◌^◌, ◌≤◌, ◌+◌, length, OnOk, IfOk};
+ghost use Rattle.gate_net.specs.Net.{IsGateNet};
+ghost use Rattle.pulse_net.specs.Validity.{IsValid};
+ghost use Rattle.pulse_net.specs.GatePulses.{PulsesAreGateValues};
+ghost use Rattle.pulse_net.specs.Unfolding.{unfolded, unfolded_from, unfolding_of, unfold_inputs, unfold_elements, phases_of, epochs_of};
+
+use crate::net::{Element, PulseNet};
+use crate::trace::Trace;
+use flow_net::Epochs;
+use gate_net::{Driver, GateNet};
+use net_base::{List, NoMemory};
+use std::alloc::Global;
+
+/// A netlist unfolded.
+#[derive(Debug, Drop)]
+pub struct Unfolded {
+    /// The clocked elements that are no DROs, in order, each a gate of its own even where two are equal; each pin is traced
+    /// back through DROs and splitters to its driver.
+    pub gates: GateNet,
+    /// The phase of each gate: its stage modulo the number of phases.
+    pub phases: List<u32>,
+    /// The epoch of each gate: its stage divided by the number of phases; and the latency, as the sink's.
+    pub epochs: Epochs,
+    /// How many DROs the netlist has.
+    pub dros: u64,
+}
+
+/// The gates of a valid netlist, with their phases and epochs, and the number of its DROs.
+pub fn unfold(alloc: Global, net: &PulseNet) -> Result<Unfolded, NoMemory>
+    requires valid { IsValid net.now }
+    requires few_inputs { length net.now.inputs < 2 ^ 31 }
+    requires few_elements { length net.now.elements < 2 ^ 31 }
+    requires few_outputs { length net.now.outputs < 2 ^ 31 }
+    ensures value { IfOk result (λ u. u ≡ unfolded net.now) }
+    ensures net { IfOk result (λ u. IsGateNet u.gates) }
+    ensures pulses { IfOk result (λ u. PulsesAreGateValues net.now u) }
+{
+    let trace = trace_of(alloc, net)?;
+    unfolded_from(alloc, net, trace)
+}
+
+/// All inputs and elements, traced in order.
+fn trace_of(alloc: Global, net: &PulseNet) -> Result<Trace, NoMemory>
+    requires few_inputs { length net.now.inputs < 2 ^ 31 }
+    requires few_elements { length net.now.elements < 2 ^ 31 }
+    ensures { IfOk result (λ trace. trace ≡ unfolding_of net.now) }
+{
+    let mut trace = Trace::new(alloc);
+    pass_inputs(&mut trace, net.inputs.as_slice())?;
+    pass_elements(alloc, &mut trace, net.elements.as_slice())?;
+    Ok(trace)
+}
+
+/// What was traced, as gates with phases and epochs.
+fn unfolded_from(alloc: Global, net: &PulseNet, trace: Trace) -> Result<Unfolded, NoMemory>
+    requires phases { 0 < net.now.phases }
+    requires few_inputs { length net.now.inputs < 2 ^ 31 }
+    ensures { IfOk result (λ u. u ≡ unfolded_from net.now trace) }
+{
+    let outputs = trace.ends_of(alloc, net.outputs.as_slice())?;
+    let phases = phases_of(alloc, trace.stages(), net.phases)?;
+    let epochs = epochs_of(alloc, trace.stages(), net.phases)?;
+    let dros = trace.dro_count();
+    Ok(Unfolded {
+        gates: GateNet {
+            inputs: net.inputs.len() as u32,
+            gates: trace.into_gates(),
+            outputs,
+        },
+        phases,
+        epochs: Epochs {
+            gates: epochs,
+            sink: net.latency,
+        },
+        dros,
+    })
+}
+
+/// Each used input drives its wire.
+fn pass_inputs(trace: &mut Trace, inputs: &[Option<u32>]) -> Result<(), NoMemory>
+    requires { length inputs.now < 2 ^ 31 }
+    ensures { OnOk result (trace.new ≡ unfold_inputs 0 inputs.now trace.old) }
+{
+    for (place, input) in inputs.iter().enumerate() {
+        if let Some(wire) = input {
+            trace.make(*wire, Driver::Input(place as u32))?;
+        }
+    }
+    Ok(())
+}
+
+/// The elements in order.
+fn pass_elements(alloc: Global, trace: &mut Trace, elements: &[Element]) -> Result<(), NoMemory>
+    requires { length trace.old.gates + length elements.now < 2 ^ 31 }
+    ensures { OnOk result (trace.new ≡ unfold_elements elements.now trace.old) }
+{
+    for element in elements {
+        trace.pass_element(alloc, element)?;
+    }
+    Ok(())
+}
+
+/// The phase at each stage.
+fn phases_of(alloc: Global, stages: &[u32], phases: u32) -> Result<List<u32>, NoMemory>
+    requires { 0 < phases }
+    ensures { IfOk result (λ r. r ≡ phases_of phases stages.now) }
+{
+    let at = stages.iter().map(|stage| *stage % phases).collect(alloc)?;
+    Ok(List::from_vec(at))
+}
+
+/// The epoch at each stage.
+fn epochs_of(alloc: Global, stages: &[u32], phases: u32) -> Result<List<u32>, NoMemory>
+    requires { 0 < phases }
+    ensures { IfOk result (λ r. r ≡ epochs_of phases stages.now) }
+{
+    let at = stages.iter().map(|stage| *stage / phases).collect(alloc)?;
+    Ok(List::from_vec(at))
+}
