@@ -1,0 +1,40 @@
+-- The taps of a driver: itself and the DROs of its chain, each with the pins that take from it.
+use Rattle.std.specs.Prelude.{◌<◌, ◌≡◌, ◌+◌, ◌&&◌, ◌==◌, ℕ, zero, suc, Bool, true, false, cond, max, List, [], ◌∷◌, length, slice_index, slice_index_or}
+use Rattle.std.specs.List.{list_any}
+use Rattle.gate_net.specs.declared.row.Driver.{Driver}
+use Rattle.gate_net.specs.Rows.{same_driver}
+use Rattle.gate_net.specs.Net.{pin_drivers}
+use Rattle.splitters.specs.declared.chained.Chained.{Chained}
+
+-- a pin in front of others, if it is one that is sought
+abbrev pub with_pin : Bool → ℕ → List ℕ → List ℕ
+with_pin true pin pins = pin ∷ pins
+with_pin false pin pins = pins
+
+-- Of these pins, the first of which has the number `pin`: those with this driver and this need.
+abbrev pub takers : List ℕ → Driver → ℕ → ℕ → List Driver → List ℕ
+takers needs driver need pin [] = []
+takers needs driver need pin (other ∷ drivers) =
+    with_pin (same_driver driver other && (slice_index needs pin == need)) pin (takers needs driver need (pin + 1) drivers)
+
+-- how many taps a driver has for these pins: 1 more than their largest need, and none without a pin
+abbrev pub tap_count : List ℕ → Driver → ℕ → List Driver → ℕ
+tap_count needs driver pin [] = 0
+tap_count needs driver pin (other ∷ drivers) =
+    max (cond (same_driver driver other) (slice_index needs pin + 1) 0) (tap_count needs driver (pin + 1) drivers)
+
+-- the pins of so many taps, from a need on
+abbrev pub taps_from : List ℕ → List Driver → Driver → ℕ → ℕ → List (List ℕ)
+taps_from needs drivers driver need zero = []
+taps_from needs drivers driver need (suc more) = takers needs driver need 0 drivers ∷ taps_from needs drivers driver (need + 1) more
+
+-- The taps of a driver, in the order of the chain: the pins of need 0, which take from the driver itself, then those that
+-- take from DRO 1, and so on. The chain is as long as the largest need.
+abbrev pub taps_of : Chained → Driver → List (List ℕ)
+taps_of chained driver =
+    let drivers = pin_drivers chained.gates in
+    taps_from chained.needs drivers driver 0 (tap_count chained.needs driver 0 drivers)
+
+-- a driver is used where it drives a pin
+abbrev pub is_used : Chained → Driver → Bool
+is_used chained driver = list_any (same_driver driver) (pin_drivers chained.gates)

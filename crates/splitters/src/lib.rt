@@ -1,0 +1,7 @@
+//! Splitter trees and wires.
+#![tactic(auto)]
+
+mod chained;
+mod spread;
+
+pub use chained::Chained;
