@@ -1,2 +1,4 @@
 pub mod Trees
+pub mod TapLemmas
+pub mod LayoutLemmas
 pub mod Examples

@@ -97,3 +97,6 @@ pub spread_wires-joined : (wire next targets : ℕ) (old : List ℕ) → 2 ≤ t
     ≡ old ++ spread_wires wire next targets
 spread_wires-joined wire next targets old many =
     simp append_assoc (ap (λ (xs : List ℕ). old ++ xs) (sym (spread_wires-halves wire next targets many)))
+
+pub length-spread_wires : (wire next targets : ℕ) → length (spread_wires wire next targets) ≡ targets
+length-spread_wires wire next targets = length-tree_wires targets wire next targets (omega arith)

@@ -37,38 +37,32 @@ with_cell cell stage pins layout = record layout {
     elements = layout.elements ++ Clocked cell stage pins layout.next ∷ [];
   }
 
--- the last wire of a chain is spread over these pins
+-- a wire is spread over so many targets
+abbrev pub with_spread : ℕ → ℕ → Layout → Layout
+with_spread wire targets layout = record layout {
+    next = layout.next + 2 * (targets - 1);
+    elements = layout.elements ++ spread_lines wire layout.next targets;
+  }
+
+-- these pins take these wires
+abbrev pub with_taken : List ℕ → List ℕ → Layout → Layout
+with_taken pins wires layout = record layout { taken = take_wires pins wires layout.taken }
+
+-- the last wire of a chain is spread over its pins
 abbrev pub with_last : ℕ → List ℕ → Layout → Layout
-with_last wire pins layout =
-    let targets = length pins in
-    record {
-      next = layout.next + 2 * (targets - 1);
-      elements = layout.elements ++ spread_lines wire layout.next targets;
-      taken = take_wires pins (spread_wires wire layout.next targets) layout.taken;
-    }
+with_last wire pins layout = with_taken pins (spread_wires wire layout.next (length pins)) (with_spread wire (length pins) layout)
 
--- a wire is spread over the next DRO of its chain and these pins, the DRO first
+-- the wires of the targets where a chain goes on: the next DRO, then these pins
+abbrev pub tap_wires : ℕ → List ℕ → Layout → List ℕ
+tap_wires wire pins layout = spread_wires wire layout.next (length pins + 1)
+
+-- a wire is spread over the next DRO of its chain and these pins
 abbrev pub with_tap : ℕ → List ℕ → Layout → Layout
-with_tap wire pins layout =
-    let targets = length pins + 1 in
-    let wires = spread_wires wire layout.next targets in
-    record {
-      next = layout.next + 2 * length pins;
-      elements = layout.elements ++ spread_lines wire layout.next targets;
-      taken = take_wires pins (drop 1 wires) layout.taken;
-    }
+with_tap wire pins layout = with_taken pins (drop 1 (tap_wires wire pins layout)) (with_spread wire (length pins + 1) layout)
 
--- the wire that the next DRO takes
-abbrev pub dro_wire : ℕ → List ℕ → Layout → ℕ
-dro_wire wire pins layout = slice_index (spread_wires wire layout.next (length pins + 1)) 0
-
--- a tap with the DRO that follows it in the chain, at a stage
+-- the same, and then the DRO itself, at a stage
 abbrev pub with_dro : ℕ → ℕ → List ℕ → Layout → Layout
-with_dro stage wire pins layout = with_cell Dro stage (dro_wire wire pins layout ∷ []) (with_tap wire pins layout)
-
--- the wire that this DRO makes
-abbrev pub wire_after : List ℕ → Layout → ℕ
-wire_after pins layout = layout.next + 2 * length pins
+with_dro stage wire pins layout = with_cell Dro stage (slice_index (tap_wires wire pins layout) 0 ∷ []) (with_tap wire pins layout)
 
 -- A chain from a wire at a stage: each DRO stands n stages behind what it takes from, and its line comes before its own
 -- splitters.
@@ -76,7 +70,7 @@ abbrev pub with_chain : ℕ → ℕ → ℕ → List (List ℕ) → Layout → L
 with_chain n stage wire [] layout = layout
 with_chain n stage wire (pins ∷ []) layout = with_last wire pins layout
 with_chain n stage wire (pins ∷ (more ∷ taps)) layout =
-    with_chain n (stage + n) (wire_after pins layout) (more ∷ taps) (with_dro (stage + n) wire pins layout)
+    with_chain n (stage + n) (with_tap wire pins layout).next (more ∷ taps) (with_dro (stage + n) wire pins layout)
 
 -- the wires of so many inputs from a number on: the used ones get the next wires in order
 abbrev pub input_wires : Chained → ℕ → ℕ → ℕ → List (Option ℕ)

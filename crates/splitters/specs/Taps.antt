@@ -1,9 +1,10 @@
 -- The taps of a driver: itself and the DROs of its chain, each with the pins that take from it.
-use Rattle.std.specs.Prelude.{◌<◌, ◌≡◌, ◌+◌, ◌&&◌, ◌==◌, ℕ, zero, suc, Bool, true, false, cond, max, List, [], ◌∷◌, length, slice_index, slice_index_or}
+use Rattle.std.specs.Prelude.{◌<◌, ◌≡◌, ◌^◌, ◌*◌, ◌-◌, ◌+◌, ◌++◌, ◌&&◌, ◌==◌, ℕ, zero, suc, Bool, true, false, cond, max, List, [], ◌∷◌, length, slice_index, slice_index_or}
 use Rattle.std.specs.List.{list_any}
 use Rattle.gate_net.specs.declared.row.Driver.{Driver}
+use Rattle.gate_net.specs.declared.row.Driver.TheVariants.{Input, Gate}
 use Rattle.gate_net.specs.Rows.{same_driver}
-use Rattle.gate_net.specs.Net.{pin_drivers}
+use Rattle.gate_net.specs.Net.{pin_drivers, IsThere}
 use Rattle.splitters.specs.declared.chained.Chained.{Chained}
 
 -- a pin in front of others, if it is one that is sought
@@ -30,11 +31,41 @@ taps_from needs drivers driver need (suc more) = takers needs driver need 0 driv
 
 -- The taps of a driver, in the order of the chain: the pins of need 0, which take from the driver itself, then those that
 -- take from DRO 1, and so on. The chain is as long as the largest need.
+abbrev pub taps_at : List ℕ → List Driver → Driver → List (List ℕ)
+taps_at needs drivers driver = taps_from needs drivers driver 0 (tap_count needs driver 0 drivers)
+
 abbrev pub taps_of : Chained → Driver → List (List ℕ)
-taps_of chained driver =
-    let drivers = pin_drivers chained.gates in
-    taps_from chained.needs drivers driver 0 (tap_count chained.needs driver 0 drivers)
+taps_of chained driver = taps_at chained.needs (pin_drivers chained.gates) driver
 
 -- a driver is used where it drives a pin
 abbrev pub is_used : Chained → Driver → Bool
 is_used chained driver = list_any (same_driver driver) (pin_drivers chained.gates)
+
+-- the place of a driver in a table of inputs and then gates
+abbrev pub slot : ℕ → Driver → ℕ
+slot inputs (Input i) = i
+slot inputs (Gate k) = inputs + k
+
+-- the pins of a tap, none past the last
+abbrev pub tap_at : List (List ℕ) → ℕ → List ℕ
+tap_at taps need = slice_index_or taps need []
+
+-- what a table of taps has, with what the pins from a number on add to it, is what all pins make
+pub record Gathers (inputs gates : ℕ) (needs : List ℕ) (drivers : List Driver) (table : List (List (List ℕ))) (pin : ℕ) (rest : List Driver) : Type 0 where
+  pub count : (driver : Driver) → IsThere inputs gates driver → max (length (slice_index_or table (slot inputs driver) [])) (tap_count needs driver pin rest) ≡ tap_count needs driver 0 drivers
+  pub pins : (driver : Driver) (need : ℕ) → IsThere inputs gates driver → tap_at (slice_index_or table (slot inputs driver) []) need ++ takers needs driver need pin rest ≡ takers needs driver need 0 drivers
+
+-- the table has the taps of each driver
+abbrev pub HasTaps : ℕ → ℕ → List ℕ → List Driver → List (List (List ℕ)) → Type 0
+HasTaps inputs gates needs drivers table = (driver : Driver) → IsThere inputs gates driver → slice_index_or table (slot inputs driver) [] ≡ taps_at needs drivers driver
+
+-- the stage of a driver: 0 of an input, and a gate's own
+abbrev pub driver_stage : Chained → Driver → ℕ
+driver_stage chained (Input i) = 0
+driver_stage chained (Gate k) = slice_index chained.stages k
+
+-- the stage of each DRO fits 32 bits
+abbrev pub StagesFit : Chained → Type 0
+StagesFit chained =
+    (driver : Driver) → IsThere chained.gates.inputs (length chained.gates.gates) driver
+    → driver_stage chained driver + chained.n * (length (taps_of chained driver) - 1) < 2 ^ 32

@@ -2,6 +2,9 @@
 #![tactic(auto)]
 
 mod chained;
+mod layout;
 mod spread;
+mod table;
+mod taps;
 
 pub use chained::Chained;
