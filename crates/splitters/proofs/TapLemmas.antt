@@ -1,6 +1,7 @@
 -- The table of taps: a pin goes to the tap of its driver and need, and at the end each tap has its pins.
-use Rattle.std.proofs.Common.{◌≡◌, ◌≢◌, ◌≤◌, ◌<◌, ℕ, zero, suc, ◌+◌, ◌-◌, ◌*◌, max, cond, Bool, true, false, ◌&&◌, ◌==◌, eqb, List, [], ◌∷◌, ◌++◌, All, length, get_or, set, drop, replicate, map, refl, ap, sym, subst, ◌∙◌, arith, add-one, drop-cons, append_assoc, ⊎_elim, get_or-set_same, get_or-set_other}
-use Rattle.std.proofs.lemmas.List.{append-nil}
+use Rattle.std.proofs.Common.{◌≡◌, ◌≢◌, ◌≤◌, ◌<◌, ◌^◌, ℕ, zero, suc, ◌+◌, ◌-◌, ◌*◌, max, cond, Bool, true, false, ◌&&◌, ◌==◌, eqb, List, [], ◌∷◌, ◌++◌, All, length, get_or, set, drop, replicate, map, refl, ap, sym, subst, ◌∙◌, arith, add-one, drop-cons, append_assoc, ⊎_elim, get_or-set_same, get_or-set_other}
+use Rattle.std.proofs.lemmas.List.{append-nil, replicate-append-replicate, get_or_default}
+use Rattle.std.proofs.lemmas.List.Elements.{All-nil, All-cons}
 use Rattle.gate_net.specs.declared.row.Driver.{Driver}
 use Rattle.gate_net.specs.declared.row.Driver.TheVariants.{Input, Gate}
 use Rattle.gate_net.specs.Rows.{same_driver}
@@ -97,3 +98,48 @@ HasTaps-gathered inputs gates needs drivers table pin done = λ driver there.
     (λ k below.
     let from_zero : 0 + k ≡ k = omega arith in
     sym (append-nil (tap_at (get_or table (slot inputs driver) []) k)) ∙ done.pins driver k there ∙ ap (λ (n : ℕ). takers needs driver n 0 drivers) (sym from_zero))
+
+-- Each driver has a place in the table, and each tap has pins that there are.
+pub slot-below : (inputs gates : ℕ) (driver : Driver) → IsThere inputs gates driver → slot inputs driver < inputs + gates
+slot-below inputs gates (Input i) there = omega arith
+slot-below inputs gates (Gate k) there = omega arith
+
+pub with_pin-below : (same : Bool) (pin limit : ℕ) (pins : List ℕ) → pin < limit → All (λ p. p < limit) pins → All (λ p. p < limit) (with_pin same pin pins)
+with_pin-below true pin limit pins below rest = All-cons (λ p. p < limit) pin pins below rest
+with_pin-below false pin limit pins below rest = rest
+
+pub takers-below : (needs : List ℕ) (driver : Driver) (need pin limit : ℕ) (drivers : List Driver) → pin + length drivers ≤ limit → All (λ p. p < limit) (takers needs driver need pin drivers)
+takers-below needs driver need pin limit [] few = All-nil (λ p. p < limit)
+takers-below needs driver need pin limit (other ∷ drivers) few =
+    with_pin-below (same_driver driver other && (get_or needs pin 0 == need)) pin limit (takers needs driver need (pin + 1) drivers) (omega arith)
+    (takers-below needs driver need (pin + 1) limit drivers (omega arith))
+
+-- the pins of each tap are below a limit
+abbrev pub AreBelow : ℕ → List (List ℕ) → Type 0
+AreBelow limit taps = All (λ pins. All (λ pin. pin < limit) pins) taps
+
+pub taps_from-below : (needs : List ℕ) (drivers : List Driver) (driver : Driver) (need count : ℕ) → AreBelow (length drivers) (taps_from needs drivers driver need count)
+taps_from-below needs drivers driver need zero = All-nil (λ pins. All (λ pin. pin < length drivers) pins)
+taps_from-below needs drivers driver need (suc count) =
+    All-cons (λ pins. All (λ pin. pin < length drivers) pins) (takers needs driver need 0 drivers) (taps_from needs drivers driver (need + 1) count)
+    (takers-below needs driver need 0 (length drivers) drivers (omega arith))
+    (taps_from-below needs drivers driver (need + 1) count)
+
+pub replicate-next : (n : ℕ) (table : List (List (List ℕ))) (taps : List (List ℕ)) → table ≡ replicate n [] → taps ≡ [] → table ++ taps ∷ [] ≡ replicate (n + 1) []
+replicate-next n table taps before empty =
+    (λ i. before i ++ empty i ∷ []) ∙ replicate-append-replicate n 1 []
+
+-- What the table has at a driver's place are pins that there are.
+pub taps-below : (inputs gates : ℕ) (needs : List ℕ) (drivers : List Driver) (table : List (List (List ℕ))) (driver : Driver) (place : ℕ) (taps : List (List ℕ)) →
+    HasTaps inputs gates needs drivers table → length table ≡ inputs + gates → IsThere inputs gates driver → place ≡ slot inputs driver → taps ≡ get_or table place taps →
+    AreBelow (length drivers) taps
+taps-below inputs gates needs drivers table driver place taps has each there here read =
+    let within : slot inputs driver < length table = omega (arith, slot-below inputs gates driver there) in
+    let same : taps ≡ taps_at needs drivers driver =
+    read ∙ ap (λ (n : ℕ). get_or table n taps) here ∙ get_or_default table (slot inputs driver) taps [] within ∙ has driver there in
+    subst (AreBelow (length drivers)) (sym same) (taps_from-below needs drivers driver 0 (tap_count needs driver 0 drivers))
+
+-- A driver that is there has one of fewer than 2 ^ 31 gates.
+pub IsThere-few : (inputs gates : ℕ) (driver : Driver) → gates < 2 ^ 31 → IsThere inputs gates driver → IsThere inputs (2 ^ 31) driver
+IsThere-few inputs gates (Input i) few there = there
+IsThere-few inputs gates (Gate k) few there = omega arith

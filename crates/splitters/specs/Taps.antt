@@ -4,7 +4,7 @@ use Rattle.std.specs.List.{list_any}
 use Rattle.gate_net.specs.declared.row.Driver.{Driver}
 use Rattle.gate_net.specs.declared.row.Driver.TheVariants.{Input, Gate}
 use Rattle.gate_net.specs.Rows.{same_driver}
-use Rattle.gate_net.specs.Net.{pin_drivers, IsThere}
+use Rattle.gate_net.specs.Net.{pin_drivers, IsThere, IsGateNet}
 use Rattle.splitters.specs.declared.chained.Chained.{Chained}
 
 -- a pin in front of others, if it is one that is sought
@@ -69,3 +69,10 @@ abbrev pub StagesFit : Chained → Type 0
 StagesFit chained =
     (driver : Driver) → IsThere chained.gates.inputs (length chained.gates.gates) driver
     → driver_stage chained driver + chained.n * (length (taps_of chained driver) - 1) < 2 ^ 32
+
+-- gates with their chains and the table of their taps, of which the stages fit
+pub record IsTapped (chained : Chained) (table : List (List (List ℕ))) : Type 0 where
+  pub formed : IsGateNet chained.gates
+  pub fits : StagesFit chained
+  pub each : length table ≡ chained.gates.inputs + length chained.gates.gates
+  pub taps : HasTaps chained.gates.inputs (length chained.gates.gates) chained.needs (pin_drivers chained.gates) table

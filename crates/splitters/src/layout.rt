@@ -1,6 +1,6 @@
 //! What is laid out so far: elements, and the wires of pins.
 
-ghost use Rattle.std.specs.Prelude.{◌≡◌, ◌<◌, ◌+◌, ◌*◌, ◌-◌, ◌^◌, ◌∷◌, [], All, IfOk, OnOk, length, slice_index, replicate};
+ghost use Rattle.std.specs.Prelude.{◌≡◌, ◌<◌, ◌≤◌, ◌+◌, ◌*◌, ◌-◌, ◌^◌, ◌∷◌, [], All, IfOk, OnOk, length, slice_index, take, drop, replicate};
 ghost use Rattle.splitters.specs.Spread.{spread_wires};
 ghost use Rattle.splitters.specs.Elements.{Layout, take_wires, with_cell, with_spread, with_taken, with_last, with_tap, with_dro, with_chain};
 
@@ -76,6 +76,42 @@ impl Layout {
             out,
         })?;
         Ok(out)
+    }
+
+    /// The wires of so many pins from one on.
+    pub(crate) fn wires(
+        &self,
+        alloc: Global,
+        pin: usize,
+        count: usize,
+    ) -> Result<List<u32>, NoMemory>
+        requires { pin + count ≤ length self.now.taken }
+        ensures { IfOk result (λ wires. wires ≡ take count (drop pin self.now.taken)) }
+    {
+        let wires = self.taken.as_slice()[pin..pin + count].to_vec(alloc)?;
+        Ok(List::from_vec(wires))
+    }
+
+    /// The next wire.
+    pub(crate) fn next(&self) -> u32
+        ensures { result ≡ self.now.next }
+    {
+        self.next
+    }
+
+    /// The wires of all pins, in the order of pins.
+    pub(crate) fn taken(&self) -> &[u32]
+        ensures { result.now ≡ self.now.taken }
+    {
+        self.taken.as_slice()
+    }
+
+    /// The elements in order.
+    pub(crate) fn into_elements(self) -> List<Element>
+        ensures { result ≡ self.elements }
+    {
+        let Layout { elements, .. } = self;
+        List::from_vec(elements)
     }
 
     // Spreads a wire over targets, and answers their wires.

@@ -2,6 +2,7 @@
 #![tactic(auto)]
 
 mod chained;
+mod drivers;
 mod layout;
 mod spread;
 mod table;
