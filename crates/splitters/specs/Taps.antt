@@ -70,9 +70,10 @@ StagesFit chained =
     (driver : Driver) → IsThere chained.gates.inputs (length chained.gates.gates) driver
     → driver_stage chained driver + chained.n * (length (taps_of chained driver) - 1) < 2 ^ 32
 
--- gates with their chains and the table of their taps, of which the stages fit
+-- gates with their chains and the table of their taps, of which the pins and the stages fit
 pub record IsTapped (chained : Chained) (table : List (List (List ℕ))) : Type 0 where
   pub formed : IsGateNet chained.gates
+  pub few_pins : length (pin_drivers chained.gates) < 2 ^ 31
   pub fits : StagesFit chained
   pub each : length table ≡ chained.gates.inputs + length chained.gates.gates
   pub taps : HasTaps chained.gates.inputs (length chained.gates.gates) chained.needs (pin_drivers chained.gates) table

@@ -1,6 +1,7 @@
 //! Splitter trees and wires.
 #![tactic(auto)]
 
+mod build;
 mod chained;
 mod drivers;
 mod layout;
@@ -8,4 +9,5 @@ mod spread;
 mod table;
 mod taps;
 
+pub use build::split;
 pub use chained::Chained;

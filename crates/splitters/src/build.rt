@@ -1,0 +1,154 @@
+//! The elements and wires of gates with shared chains.
+
+ghost use Rattle.std.specs.Prelude.{◌≡◌, ◌<◌, ◌+◌, ◌-◌, ◌^◌, ◌++◌, ◌∷◌, [], cond, IfOk, OnOk, length};
+ghost use Rattle.gate_net.specs.declared.row.Driver.TheVariants.{Input};
+ghost use Rattle.gate_net.specs.Net.{IsGateNet, pin_drivers};
+ghost use Rattle.splitters.specs.Taps.{IsTapped, StagesFit, is_used};
+ghost use Rattle.splitters.specs.Elements.{inputs_of, wire_count, gate_pins, outlets, elements_of};
+
+use crate::Chained;
+use crate::drivers::{lay_gates, lay_inputs};
+use crate::layout::Layout;
+use crate::table::{gather, pin_drivers};
+use crate::taps::Taps;
+use gate_net::{Driver, End, GateRow};
+use net_base::{List, NoMemory};
+use pulse_net::{Names, Outlet, PulseNet};
+use std::alloc::Global;
+
+// Whether an input is used: it has a tap.
+fn is_used(chained: &Chained, table: &[Taps], i: u32) -> bool
+    requires tapped { IsTapped chained.now table.now }
+    requires there { i < chained.now.gates.inputs }
+    ensures { result ≡ is_used chained.now (Input i) }
+{
+    !table[i as usize].is_empty()
+}
+
+// Adds the wire of an input, the next one if it is used, and answers the next wire then.
+fn push_wire(wires: &mut Vec<Option<u32>>, next: u32, used: bool) -> Result<u32, NoMemory>
+    requires { next < 2 ^ 32 - 1 }
+    ensures wires { OnOk result (wires.new.items ≡ wires.old.items ++ cond used (Some next) None ∷ []) }
+    ensures next { IfOk result (λ after. after ≡ next + cond used 1 0) }
+{
+    if used {
+        wires.push(Some(next))?;
+        return Ok(next + 1);
+    }
+    wires.push(None)?;
+    Ok(next)
+}
+
+// The wires of the inputs: the used ones get the first wires, in order.
+fn input_wires(
+    alloc: Global,
+    chained: &Chained,
+    table: &[Taps],
+) -> Result<Vec<Option<u32>>, NoMemory>
+    requires { IsTapped chained.now table.now }
+    ensures wires { IfOk result (λ wires. wires.items ≡ inputs_of chained.now) }
+    ensures each { IfOk result (λ wires. length wires.items ≡ chained.now.gates.inputs) }
+{
+    let inputs = chained.gates.inputs;
+    let mut wires = Vec::with_capacity(alloc, inputs as usize)?;
+    let mut next = 0;
+    for i in 0..inputs {
+        let used = is_used(chained, table, i);
+        next = push_wire(&mut wires, next, used)?;
+    }
+    Ok(wires)
+}
+
+// How many inputs have a wire.
+fn wire_count(wires: &[Option<u32>]) -> u32
+    requires { length wires.now < 2 ^ 32 }
+    ensures { result ≡ wire_count wires.now }
+{
+    let mut count = 0;
+    for wire in wires {
+        if wire.is_some() {
+            count += 1;
+        }
+    }
+    count
+}
+
+// How many pins gates have.
+fn gate_pins(rows: &[GateRow]) -> usize
+    requires { gate_pins rows.now < 2 ^ 31 }
+    ensures { result ≡ gate_pins rows.now }
+{
+    let mut count = 0;
+    for row in rows {
+        count += row.pins.len();
+    }
+    count
+}
+
+// What stands at each output, of which the first that is no constant is this pin.
+fn outlets(
+    alloc: Global,
+    taken: &[u32],
+    mut pin: usize,
+    ends: &[End],
+) -> Result<Vec<Outlet>, NoMemory>
+    requires few { pin < 2 ^ 31 }
+    requires few_ends { length ends.now < 2 ^ 31 }
+    ensures { IfOk result (λ found. found.items ≡ outlets taken.now pin ends.now) }
+{
+    let mut found = Vec::with_capacity(alloc, ends.len())?;
+    for end in ends {
+        match end {
+            End::Zero => found.push(Outlet::Zero)?,
+            End::One => found.push(Outlet::One)?,
+            End::From(_) => {
+                found.push(Outlet::Wire(taken.get(pin).copied().unwrap_or(0)))?;
+                pin += 1;
+            }
+        }
+    }
+    Ok(found)
+}
+
+/// The netlist of gates with shared chains: splitter trees, DROs and wires.
+pub fn split(alloc: Global, chained: Chained, names: Names) -> Result<PulseNet, NoMemory>
+    requires formed { IsGateNet chained.gates }
+    requires few_pins { length (pin_drivers chained.gates) < 2 ^ 31 }
+    requires stages { StagesFit chained }
+    ensures { IfOk result (λ net. net ≡ elements_of chained names) }
+{
+    let drivers = pin_drivers(alloc, &chained.gates)?;
+    let table = gather(
+        alloc,
+        chained.gates.inputs,
+        chained.gates.gates.len(),
+        drivers.as_slice(),
+        chained.needs.as_slice(),
+    )?;
+    let inputs = input_wires(alloc, &chained, table.as_slice())?;
+    let next = wire_count(inputs.as_slice());
+    let mut layout = Layout::new(alloc, next, drivers.len())?;
+    lay_inputs(
+        alloc,
+        &mut layout,
+        &chained,
+        table.as_slice(),
+        inputs.as_slice(),
+    )?;
+    lay_gates(alloc, &mut layout, &chained, table.as_slice())?;
+    let first = gate_pins(chained.gates.gates.as_slice());
+    let outputs = outlets(
+        alloc,
+        layout.taken(),
+        first,
+        chained.gates.outputs.as_slice(),
+    )?;
+    Ok(PulseNet {
+        names,
+        phases: chained.n,
+        latency: chained.latency,
+        inputs: List::from_vec(inputs),
+        elements: layout.into_elements(),
+        outputs: List::from_vec(outputs),
+    })
+}
