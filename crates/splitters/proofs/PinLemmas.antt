@@ -1,9 +1,8 @@
 -- The drivers of pins are there, and inputs have wires.
-use Rattle.std.proofs.Common.{◌≡◌, ◌≤◌, ◌<◌, ◌+◌, ◌-◌, ℕ, zero, suc, Bool, true, false, cond, List, [], ◌∷◌, ◌++◌, All, Option, Some, None, length, get_or, refl, ap, arith}
+use Rattle.std.proofs.Common.{◌≡◌, ◌≤◌, ◌<◌, ◌+◌, ◌-◌, ℕ, zero, suc, Bool, true, false, cond, List, [], ◌∷◌, ◌++◌, All, Option, Some, None, length, get_or, refl, ap, sym, ◌∙◌, append_assoc, arith}
 use Rattle.std.proofs.lemmas.List.Elements.{All-nil, All-cons, All-append, All-head, All-tail, All-weaker}
 use Rattle.std.specs.List.{flat_map}
-use Rattle.gate_net.specs.declared.row.Driver.{Driver}
-use Rattle.gate_net.specs.declared.row.Driver.TheVariants.{Input, Gate}
+use Rattle.gate_net.specs.declared.row.Driver.TheVariants.{Input}
 use Rattle.gate_net.specs.declared.row.End.{End}
 use Rattle.gate_net.specs.declared.row.End.TheVariants.{Zero, One, From}
 use Rattle.gate_net.specs.declared.row.GateRow.{GateRow}
@@ -52,3 +51,17 @@ input_wires-next chained input next inputs within =
 pub length-input_wires : (chained : Chained) (input next more : ℕ) → length (input_wires chained input next more) ≡ more
 length-input_wires chained input next zero = refl
 length-input_wires chained input next (suc more) = omega (arith, length-input_wires chained (input + 1) (next + cond (is_used chained (Input input)) 1 0) more)
+
+pub one_at_most : (b : Bool) → cond b 1 0 ≤ 1
+one_at_most true = omega arith
+one_at_most false = omega arith
+
+-- The wires so far with those that are left stay the wires of all inputs, as one is added.
+pub input_wires-pushed : (chained : Chained) (input next inputs after : ℕ) (used : Bool) (old new : List (Option ℕ)) → input < inputs → used ≡ is_used chained (Input input) →
+    new ≡ old ++ cond used (Some next) None ∷ [] → after ≡ next + cond used 1 0 →
+    new ++ input_wires chained (input + 1) after (inputs - (input + 1)) ≡ old ++ input_wires chained input next (inputs - input)
+input_wires-pushed chained input next inputs after used old new within used_is new_is after_is =
+    (λ i. new_is i ++ input_wires chained (input + 1) (after_is i) (inputs - (input + 1)))
+    ∙ append_assoc old (cond used (Some next) None ∷ []) (input_wires chained (input + 1) (next + cond used 1 0) (inputs - (input + 1)))
+    ∙ (λ i. old ++ (cond (used_is i) (Some next) None ∷ input_wires chained (input + 1) (next + cond (used_is i) 1 0) (inputs - (input + 1))))
+    ∙ ap (λ (xs : List (Option ℕ)). old ++ xs) (sym (input_wires-next chained input next inputs within))

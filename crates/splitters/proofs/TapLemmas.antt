@@ -1,5 +1,5 @@
 -- The table of taps: a pin goes to the tap of its driver and need, and at the end each tap has its pins.
-use Rattle.std.proofs.Common.{◌≡◌, ◌≢◌, ◌≤◌, ◌<◌, ◌^◌, ℕ, zero, suc, ◌+◌, ◌-◌, ◌*◌, max, cond, Bool, true, false, not, IsTrue, ◌↔◌, ◌||◌, ◌&&◌, ◌==◌, eqb, List, [], ◌∷◌, ◌++◌, All, length, get_or, set, drop, replicate, map, refl, ap, sym, subst, ◌∙◌, arith, add-one, drop-cons, append_assoc, ⊎_elim, get_or-set_same, get_or-set_other}
+use Rattle.std.proofs.Common.{◌≡◌, ◌≢◌, ◌≤◌, ◌<◌, ◌^◌, ℕ, zero, suc, ◌+◌, max, cond, Bool, true, false, not, IsTrue, ◌↔◌, ◌||◌, ◌&&◌, ◌==◌, List, [], ◌∷◌, ◌++◌, All, length, get_or, set, drop, replicate, refl, ap, sym, subst, ◌∙◌, arith, add-one, drop-cons, append_assoc, get_or-set_same, get_or-set_other}
 use Rattle.std.proofs.lemmas.List.{append-nil, replicate-append-replicate, get_or_default}
 use Rattle.std.proofs.lemmas.List.Elements.{All-nil, All-cons}
 use Rattle.std.specs.List.{list_any}
@@ -17,9 +17,9 @@ get_or-replicate_same A (suc n) (suc i) x = get_or-replicate_same A n i x
 
 pub Gathers-start : (inputs gates slots : ℕ) (needs : List ℕ) (drivers : List Driver) → Gathers inputs gates needs drivers (replicate slots []) 0 drivers
 Gathers-start inputs gates slots needs drivers = record {
-    count = λ driver there. rw (get_or-replicate_same (List (List ℕ)) slots (slot inputs driver) []) (omega arith);
-    pins = λ driver need there. rw (get_or-replicate_same (List (List ℕ)) slots (slot inputs driver) []) refl;
-  }
+  count = λ driver there. rw (get_or-replicate_same (List (List ℕ)) slots (slot inputs driver) []) (omega arith);
+  pins = λ driver need there. rw (get_or-replicate_same (List (List ℕ)) slots (slot inputs driver) []) refl;
+}
 
 -- Two drivers are the same, or stand at two places of the table.
 pub slot-same : (inputs gates : ℕ) (a b : Driver) → IsThere inputs gates a → IsThere inputs gates b → same_driver a b ≡ true → slot inputs a ≡ slot inputs b
@@ -64,15 +64,15 @@ Gathers-next inputs gates needs drivers table pin other rest taps here within co
     λ driver there same. ap (λ (n : ℕ). get_or table n []) (sym (slot-same inputs gates driver other there here same)) in
     record {
       count = λ driver there.
-        count-next (same_driver driver other) (length (get_or table (slot inputs driver) [])) (length (new driver)) (get_or needs pin 0) (tap_count needs driver (pin + 1) rest) (tap_count needs driver 0 drivers)
-        (λ same. ap length (same_place driver there same) ∙ count ∙ ap (λ (xs : List (List ℕ)). max (length xs) (get_or needs pin 0 + 1)) (old_place driver there same))
-        (λ same. ap length (other_place driver there same))
-        (done.count driver there);
+          count-next (same_driver driver other) (length (get_or table (slot inputs driver) [])) (length (new driver)) (get_or needs pin 0) (tap_count needs driver (pin + 1) rest) (tap_count needs driver 0 drivers)
+          (λ same. ap length (same_place driver there same) ∙ count ∙ ap (λ (xs : List (List ℕ)). max (length xs) (get_or needs pin 0 + 1)) (old_place driver there same))
+          (λ same. ap length (other_place driver there same))
+          (done.count driver there);
       pins = λ driver need there.
-        pins-next (same_driver driver other) (get_or needs pin 0 == need) (tap_at (get_or table (slot inputs driver) []) need) (tap_at (new driver) need) (takers needs driver need (pin + 1) rest) (takers needs driver need 0 drivers) pin
-        (λ same. ap (λ (xs : List (List ℕ)). tap_at xs need) (same_place driver there same) ∙ pins need ∙ ap (λ (xs : List (List ℕ)). cond (get_or needs pin 0 == need) (tap_at xs need ++ pin ∷ []) (tap_at xs need)) (old_place driver there same))
-        (λ same. ap (λ (xs : List (List ℕ)). tap_at xs need) (other_place driver there same))
-        (done.pins driver need there);
+          pins-next (same_driver driver other) (get_or needs pin 0 == need) (tap_at (get_or table (slot inputs driver) []) need) (tap_at (new driver) need) (takers needs driver need (pin + 1) rest) (takers needs driver need 0 drivers) pin
+          (λ same. ap (λ (xs : List (List ℕ)). tap_at xs need) (same_place driver there same) ∙ pins need ∙ ap (λ (xs : List (List ℕ)). cond (get_or needs pin 0 == need) (tap_at xs need ++ pin ∷ []) (tap_at xs need)) (old_place driver there same))
+          (λ same. ap (λ (xs : List (List ℕ)). tap_at xs need) (other_place driver there same))
+          (done.pins driver need there);
     }
 
 -- Lists of taps with the same pins at each need are one.
@@ -193,9 +193,9 @@ length-taps_from needs drivers driver need (suc count) = omega (arith, length-ta
 is_used-empty : (needs : List ℕ) (driver : Driver) (drivers : List Driver) (taps : List (List ℕ)) (empty : Bool) → length taps ≡ tap_count needs driver 0 drivers →
     (IsTrue empty ↔ (taps ≡ [])) → not empty ≡ list_any (same_driver driver) drivers
 is_used-empty needs driver drivers taps true many tells =
-    let none : length taps ≡ 0 = ap length (tells.0 tt) in
+    let none : length taps ≡ 0 = ap length (tells.0 refl) in
     sym (tap_count-none needs driver 0 drivers (sym many ∙ none))
-is_used-empty needs driver drivers [] false many tells = absurd (tells.1 refl)
+is_used-empty needs driver drivers [] false many tells = let never : false ≡ true = tells.1 refl in cc
 is_used-empty needs driver drivers (tap ∷ taps) false many tells = sym (tap_count-some needs driver 0 drivers (omega arith))
 
 -- Whether the table has a tap for a driver tells whether it is used.

@@ -4,7 +4,7 @@ ghost use Rattle.std.specs.Prelude.{◌≡◌, ◌<◌, ◌+◌, ◌-◌, ◌^�
 ghost use Rattle.gate_net.specs.declared.row.Driver.TheVariants.{Input};
 ghost use Rattle.gate_net.specs.Net.{IsGateNet, pin_drivers};
 ghost use Rattle.splitters.specs.Taps.{IsTapped, StagesFit, is_used};
-ghost use Rattle.splitters.specs.Elements.{inputs_of, wire_count, gate_pins, outlets, elements_of};
+ghost use Rattle.splitters.specs.Elements.{inputs_of, wire_count, gate_pins, outlets, layout_of, elements_of};
 
 use crate::Chained;
 use crate::drivers::{lay_gates, lay_inputs};
@@ -110,6 +110,54 @@ fn outlets(
     Ok(found)
 }
 
+// The table of the taps of all drivers.
+fn tap_table(alloc: Global, chained: &Chained, drivers: &[Driver]) -> Result<Vec<Taps>, NoMemory>
+    requires formed { IsGateNet chained.now.gates }
+    requires few_pins { length (pin_drivers chained.now.gates) < 2 ^ 31 }
+    requires stages { StagesFit chained.now }
+    requires drivers { drivers.now ≡ pin_drivers chained.now.gates }
+    ensures { IfOk result (λ table. IsTapped chained.now table.items) }
+{
+    gather(
+        alloc,
+        chained.gates.inputs,
+        chained.gates.gates.len(),
+        drivers,
+        chained.needs.as_slice(),
+    )
+}
+
+// All drivers laid out, the used inputs and then the gates.
+fn lay_out(
+    alloc: Global,
+    chained: &Chained,
+    table: &[Taps],
+    inputs: &[Option<u32>],
+    pins: usize,
+) -> Result<Layout, NoMemory>
+    requires tapped { IsTapped chained.now table.now }
+    requires inputs { inputs.now ≡ inputs_of chained.now }
+    requires each { length inputs.now ≡ chained.now.gates.inputs }
+    requires pins { pins ≡ length (pin_drivers chained.now.gates) }
+    ensures { IfOk result (λ layout. layout ≡ layout_of chained.now) }
+{
+    let _inputs = chained.gates.inputs;
+    let mut layout = Layout::new(alloc, wire_count(inputs), pins)?;
+    lay_inputs(alloc, &mut layout, chained, table, inputs)?;
+    lay_gates(alloc, &mut layout, chained, table)?;
+    Ok(layout)
+}
+
+// What stands at the outputs, whose pins come behind those of the gates.
+fn output_wires(alloc: Global, chained: &Chained, taken: &[u32]) -> Result<Vec<Outlet>, NoMemory>
+    requires formed { IsGateNet chained.now.gates }
+    requires few_pins { length (pin_drivers chained.now.gates) < 2 ^ 31 }
+    ensures { IfOk result (λ found. found.items ≡ outlets taken.now (gate_pins chained.now.gates.gates) chained.now.gates.outputs) }
+{
+    let first = gate_pins(chained.gates.gates.as_slice());
+    outlets(alloc, taken, first, chained.gates.outputs.as_slice())
+}
+
 /// The netlist of gates with shared chains: splitter trees, DROs and wires.
 pub fn split(alloc: Global, chained: Chained, names: Names) -> Result<PulseNet, NoMemory>
     requires formed { IsGateNet chained.gates }
@@ -118,31 +166,16 @@ pub fn split(alloc: Global, chained: Chained, names: Names) -> Result<PulseNet, 
     ensures { IfOk result (λ net. net ≡ elements_of chained names) }
 {
     let drivers = pin_drivers(alloc, &chained.gates)?;
-    let table = gather(
-        alloc,
-        chained.gates.inputs,
-        chained.gates.gates.len(),
-        drivers.as_slice(),
-        chained.needs.as_slice(),
-    )?;
+    let table = tap_table(alloc, &chained, drivers.as_slice())?;
     let inputs = input_wires(alloc, &chained, table.as_slice())?;
-    let next = wire_count(inputs.as_slice());
-    let mut layout = Layout::new(alloc, next, drivers.len())?;
-    lay_inputs(
+    let layout = lay_out(
         alloc,
-        &mut layout,
         &chained,
         table.as_slice(),
         inputs.as_slice(),
+        drivers.len(),
     )?;
-    lay_gates(alloc, &mut layout, &chained, table.as_slice())?;
-    let first = gate_pins(chained.gates.gates.as_slice());
-    let outputs = outlets(
-        alloc,
-        layout.taken(),
-        first,
-        chained.gates.outputs.as_slice(),
-    )?;
+    let outputs = output_wires(alloc, &chained, layout.taken())?;
     Ok(PulseNet {
         names,
         phases: chained.n,

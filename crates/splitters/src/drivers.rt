@@ -68,14 +68,7 @@ pub(crate) fn lay_inputs(
     let _inputs = chained.gates.inputs;
     for (i, wire) in wires.iter().enumerate() {
         if let Some(wire) = *wire {
-            lay_chain(
-                alloc,
-                layout,
-                chained,
-                table,
-                Driver::Input(i as u32),
-                wire,
-            )?;
+            lay_chain(alloc, layout, chained, table, Driver::Input(i as u32), wire)?;
         }
     }
     Ok(())
@@ -118,15 +111,7 @@ pub(crate) fn lay_gates(
 {
     let mut pin = 0;
     for (gate, row) in chained.gates.gates.as_slice().iter().enumerate() {
-        lay_gate(
-            alloc,
-            layout,
-            chained,
-            table,
-            gate as u32,
-            pin,
-            row,
-        )?;
+        lay_gate(alloc, layout, chained, table, gate as u32, pin, row)?;
         pin += row.pins.len();
     }
     Ok(())

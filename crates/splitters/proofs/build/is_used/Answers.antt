@@ -1,4 +1,4 @@
-use Rattle.std.proofs.Common.{refl, ◌∙◌, arith, length}
+use Rattle.std.proofs.Common.{refl, length}
 use Rattle.gate_net.specs.declared.row.Driver.TheVariants.{Input}
 use Rattle.gate_net.specs.Net.{pin_drivers}
 use Rattle.splitters.proofs.TapLemmas.{is_used-taps}

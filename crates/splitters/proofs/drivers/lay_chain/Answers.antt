@@ -1,4 +1,4 @@
-use Rattle.std.proofs.Common.{◌≡◌, ℕ, List, length, sym, subst}
+use Rattle.std.proofs.Common.{ℕ, List, length, sym, subst}
 use Rattle.gate_net.specs.Net.{pin_drivers}
 use Rattle.splitters.proofs.TapLemmas.{AreBelow, taps-below}
 use Rattle.splitters.proofs.drivers.lay_chain.Goals as goal
