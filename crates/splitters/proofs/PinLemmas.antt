@@ -9,7 +9,7 @@ use Rattle.gate_net.specs.declared.row.GateRow.{GateRow}
 use Rattle.gate_net.specs.declared.net.GateNet.{GateNet}
 use Rattle.gate_net.specs.Net.{IsThere, IsEndThere, IsGateNet, end_drivers, pin_drivers}
 use Rattle.gate_net.proofs.NetLemmas.{IsThere-more}
-use Rattle.splitters.specs.declared.chained.Chained.{Chained}
+use Rattle.dro_chains.specs.declared.chain.Chained.{Chained}
 use Rattle.splitters.specs.Taps.{is_used}
 use Rattle.splitters.specs.Elements.{input_wires}
 

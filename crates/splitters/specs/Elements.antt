@@ -13,7 +13,7 @@ use Rattle.pulse_net.specs.declared.net.Outlet.{Outlet}
 use Rattle.pulse_net.specs.declared.net.Outlet.TheVariants.{Zero, One, Wire}
 use Rattle.pulse_net.specs.declared.net.Names.{Names}
 use Rattle.pulse_net.specs.declared.net.PulseNet.{PulseNet}
-use Rattle.splitters.specs.declared.chained.Chained.{Chained}
+use Rattle.dro_chains.specs.declared.chain.Chained.{Chained}
 use Rattle.splitters.specs.Spread.{spread_lines, spread_wires}
 use Rattle.splitters.specs.Taps.{taps_of, is_used}
 

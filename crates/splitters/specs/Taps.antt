@@ -5,7 +5,7 @@ use Rattle.gate_net.specs.declared.row.Driver.{Driver}
 use Rattle.gate_net.specs.declared.row.Driver.TheVariants.{Input, Gate}
 use Rattle.gate_net.specs.Rows.{same_driver}
 use Rattle.gate_net.specs.Net.{pin_drivers, IsThere, IsGateNet}
-use Rattle.splitters.specs.declared.chained.Chained.{Chained}
+use Rattle.dro_chains.specs.declared.chain.Chained.{Chained}
 
 -- a pin in front of others, if it is one that is sought
 abbrev pub with_pin : Bool → ℕ → List ℕ → List ℕ

@@ -6,7 +6,7 @@ ghost use Rattle.gate_net.specs.Net.{IsGateNet, pin_drivers};
 ghost use Rattle.splitters.specs.Taps.{IsTapped, StagesFit, is_used};
 ghost use Rattle.splitters.specs.Elements.{inputs_of, wire_count, gate_pins, outlets, layout_of, elements_of};
 
-use crate::Chained;
+use dro_chains::Chained;
 use crate::drivers::{lay_gates, lay_inputs};
 use crate::layout::Layout;
 use crate::table::{gather, pin_drivers};

@@ -5,7 +5,7 @@ ghost use Rattle.gate_net.specs.Net.{IsThere, pin_drivers};
 ghost use Rattle.splitters.specs.Taps.{IsTapped, driver_stage, taps_of};
 ghost use Rattle.splitters.specs.Elements.{with_chain, with_gate, with_gates, with_inputs, gate_pins};
 
-use crate::Chained;
+use dro_chains::Chained;
 use crate::layout::Layout;
 use crate::table::slot;
 use crate::taps::Taps;

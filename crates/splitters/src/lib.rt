@@ -2,7 +2,6 @@
 #![tactic(auto)]
 
 mod build;
-mod chained;
 mod drivers;
 mod layout;
 mod spread;
@@ -10,4 +9,3 @@ mod table;
 mod taps;
 
 pub use build::split;
-pub use chained::Chained;
