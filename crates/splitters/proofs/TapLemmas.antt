@@ -1,7 +1,8 @@
 -- The table of taps: a pin goes to the tap of its driver and need, and at the end each tap has its pins.
-use Rattle.std.proofs.Common.{◌≡◌, ◌≢◌, ◌≤◌, ◌<◌, ◌^◌, ℕ, zero, suc, ◌+◌, max, cond, Bool, true, false, not, IsTrue, ◌↔◌, ◌||◌, ◌&&◌, ◌==◌, List, [], ◌∷◌, ◌++◌, All, length, get_or, set, drop, replicate, refl, ap, sym, subst, ◌∙◌, arith, add-one, drop-cons, append_assoc, get_or-set_same, get_or-set_other}
+use Rattle.std.proofs.Common.{◌-◌, ⊎_elim, ◌*◌, ◌≡◌, ◌≢◌, ◌≤◌, ◌<◌, ◌^◌, ℕ, zero, suc, ◌+◌, max, cond, Bool, true, false, not, IsTrue, ◌↔◌, ◌||◌, ◌&&◌, ◌==◌, List, [], ◌∷◌, ◌++◌, All, length, get_or, set, drop, replicate, refl, ap, sym, subst, ◌∙◌, arith, add-one, drop-cons, append_assoc, get_or-set_same, get_or-set_other}
 use Rattle.std.proofs.lemmas.List.{append-nil, replicate-append-replicate, get_or_default}
 use Rattle.std.proofs.lemmas.List.Elements.{All-nil, All-cons}
+use Rattle.std.proofs.lemmas.Bool.{cases_lt}
 use Rattle.std.specs.List.{list_any}
 use Rattle.gate_net.specs.declared.row.Driver.{Driver}
 use Rattle.gate_net.specs.declared.row.Driver.TheVariants.{Input, Gate}
@@ -208,3 +209,57 @@ is_used-taps inputs gates needs drivers table driver place taps empty has each t
     read ∙ ap (λ (n : ℕ). get_or table n taps) here ∙ get_or_default table (slot inputs driver) taps [] within ∙ has driver there in
     let many : length taps ≡ tap_count needs driver 0 drivers = ap length same ∙ length-taps_from needs drivers driver 0 (tap_count needs driver 0 drivers) in
     is_used-empty needs driver drivers taps empty many tells
+
+-- The last DRO of a chain fits: it is the one that some pin takes from.
+pub same_driver-equal : (a b : Driver) → same_driver a b ≡ true → a ≡ b
+same_driver-equal (Input i) (Input j) same = let e : i ≡ j = grind arith in ap Input e
+same_driver-equal (Input i) (Gate k) same = cc
+same_driver-equal (Gate k) (Input i) same = cc
+same_driver-equal (Gate j) (Gate k) same = let e : j ≡ k = grind arith in ap Gate e
+
+pub fits-next : (same : Bool) (n stage need more limit : ℕ) → (same ≡ true → stage + n * need < limit) → stage + n * (more - 1) < limit → stage + n * (max (cond same (need + 1) 0) more - 1) < limit
+fits-next false n stage need more limit mine rest =
+    let e : max 0 more ≡ more = omega arith in
+    subst (λ (m : ℕ). stage + n * (m - 1) < limit) (sym e) rest
+fits-next true n stage need more limit mine rest =
+    ⊎_elim {C = stage + n * (max (need + 1) more - 1) < limit}
+    (λ below.
+    let e : need ≡ max (need + 1) more - 1 = omega arith in
+    subst (λ (m : ℕ). stage + n * m < limit) e (mine refl))
+    (λ above.
+    let e : more ≡ max (need + 1) more = omega arith in
+    subst (λ (m : ℕ). stage + n * (m - 1) < limit) e rest)
+    (cases_lt more (need + 1))
+
+pub tap_count-fits : (stage_of : Driver → ℕ) (n limit : ℕ) (needs : List ℕ) (driver : Driver) (pin : ℕ) (drivers : List Driver) → stage_of driver < limit →
+    ((k : ℕ) (d : Driver) → k < length drivers → stage_of (get_or drivers k d) + n * get_or needs (pin + k) 0 < limit) →
+    stage_of driver + n * (tap_count needs driver pin drivers - 1) < limit
+tap_count-fits stage_of n limit needs driver pin [] first each = omega arith
+tap_count-fits stage_of n limit needs driver pin (other ∷ drivers) first each =
+    let here : pin + 0 ≡ pin = omega arith in
+    fits-next (same_driver driver other) n (stage_of driver) (get_or needs pin 0) (tap_count needs driver (pin + 1) drivers) limit
+    (λ same.
+    subst (λ (d : Driver). stage_of d + n * get_or needs pin 0 < limit) (sym (same_driver-equal driver other same))
+    (subst (λ (m : ℕ). stage_of other + n * get_or needs m 0 < limit) here (each 0 other (omega arith))))
+    (tap_count-fits stage_of n limit needs driver (pin + 1) drivers first
+    (λ k d below.
+    let next : pin + suc k ≡ (pin + 1) + k = omega arith in
+    subst (λ (m : ℕ). stage_of (get_or drivers k d) + n * get_or needs m 0 < limit) next (each (suc k) d (omega arith))))
+
+pub length-taps_at : (inputs gates : ℕ) (needs : List ℕ) (drivers : List Driver) (table : List (List (List ℕ))) (driver : Driver) (place : ℕ) (taps : List (List ℕ)) →
+    HasTaps inputs gates needs drivers table → length table ≡ inputs + gates → IsThere inputs gates driver → place ≡ slot inputs driver → taps ≡ get_or table place taps →
+    length taps ≡ tap_count needs driver 0 drivers
+length-taps_at inputs gates needs drivers table driver place taps has each there here read =
+    let within : slot inputs driver < length table = omega (arith, slot-below inputs gates driver there) in
+    ap length (read ∙ ap (λ (n : ℕ). get_or table n taps) here ∙ get_or_default table (slot inputs driver) taps [] within ∙ has driver there)
+    ∙ length-taps_from needs drivers driver 0 (tap_count needs driver 0 drivers)
+
+pub chain-fits : (stage_of : Driver → ℕ) (n : ℕ) (needs : List ℕ) (driver : Driver) (drivers : List Driver) (stage count : ℕ) →
+    stage ≡ stage_of driver → stage < 2 ^ 32 → count ≡ tap_count needs driver 0 drivers →
+    ((k : ℕ) (d : Driver) → k < length drivers → stage_of (get_or drivers k d) + n * get_or needs k 0 < 2 ^ 32) →
+    stage + n * (count - 1) < 2 ^ 32
+chain-fits stage_of n needs driver drivers stage count here small many each =
+    let all : stage_of driver + n * (tap_count needs driver 0 drivers - 1) < 2 ^ 32 =
+    tap_count-fits stage_of n (2 ^ 32) needs driver 0 drivers (subst (λ (m : ℕ). m < 2 ^ 32) here small)
+    (λ k d below. let e : k ≡ 0 + k = omega arith in subst (λ (m : ℕ). stage_of (get_or drivers k d) + n * get_or needs m 0 < 2 ^ 32) e (each k d below)) in
+    subst (λ (m : ℕ). stage + n * (m - 1) < 2 ^ 32) (sym many) (subst (λ (m : ℕ). m + n * (tap_count needs driver 0 drivers - 1) < 2 ^ 32) (sym here) all)

@@ -5,16 +5,16 @@ ghost use Rattle.gate_net.specs.Net.{IsThere, pin_drivers};
 ghost use Rattle.splitters.specs.Taps.{IsTapped, driver_stage, taps_of};
 ghost use Rattle.splitters.specs.Elements.{with_chain, with_gate, with_gates, with_inputs, gate_pins};
 
-use dro_chains::Chained;
 use crate::layout::Layout;
 use crate::table::slot;
 use crate::taps::Taps;
+use dro_chains::Chained;
 use gate_net::{Driver, GateRow};
 use net_base::NoMemory;
 use std::alloc::Global;
 
-// The stage of a driver: inputs have stage 0.
-fn stage(chained: &Chained, driver: Driver) -> u32
+/// The stage of a driver: inputs have stage 0.
+pub(crate) fn stage(chained: &Chained, driver: Driver) -> u32
     ensures { result ≡ driver_stage chained.now driver }
 {
     match driver {

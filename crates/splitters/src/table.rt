@@ -71,8 +71,8 @@ fn empty_table(alloc: Global, slots: usize) -> Result<Vec<Taps>, NoMemory>
     Ok(table)
 }
 
-// The need of a pin.
-fn need(needs: &[u32], pin: usize) -> u32
+/// The need of a pin.
+pub(crate) fn need(needs: &[u32], pin: usize) -> u32
     ensures { result ≡ slice_index needs.now pin }
 {
     needs.get(pin).copied().unwrap_or(0)
