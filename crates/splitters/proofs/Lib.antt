@@ -1,0 +1,5 @@
+pub mod Trees
+pub mod TapLemmas
+pub mod PinLemmas
+pub mod LayoutLemmas
+pub mod Examples

@@ -1,0 +1,85 @@
+-- The taps of a driver: itself and the DROs of its chain, each with the pins that take from it.
+use Rattle.std.specs.Prelude.{◌<◌, ◌≡◌, ◌^◌, ◌*◌, ◌-◌, ◌+◌, ◌++◌, ◌&&◌, ◌==◌, ℕ, zero, suc, Bool, true, false, cond, max, List, [], ◌∷◌, length, slice_index, slice_index_or}
+use Rattle.std.specs.List.{list_any}
+use Rattle.gate_net.specs.declared.row.Driver.{Driver}
+use Rattle.gate_net.specs.declared.row.Driver.TheVariants.{Input, Gate}
+use Rattle.gate_net.specs.Rows.{same_driver}
+use Rattle.gate_net.specs.Net.{pin_drivers, IsThere, IsGateNet}
+use Rattle.dro_chains.specs.declared.chain.Chained.{Chained}
+
+-- a pin in front of others, if it is one that is sought
+abbrev pub with_pin : Bool → ℕ → List ℕ → List ℕ
+with_pin true pin pins = pin ∷ pins
+with_pin false pin pins = pins
+
+-- Of these pins, the first of which has the number `pin`: those with this driver and this need.
+abbrev pub takers : List ℕ → Driver → ℕ → ℕ → List Driver → List ℕ
+takers needs driver need pin [] = []
+takers needs driver need pin (other ∷ drivers) =
+    with_pin (same_driver driver other && (slice_index needs pin == need)) pin (takers needs driver need (pin + 1) drivers)
+
+-- how many taps a driver has for these pins: 1 more than their largest need, and none without a pin
+abbrev pub tap_count : List ℕ → Driver → ℕ → List Driver → ℕ
+tap_count needs driver pin [] = 0
+tap_count needs driver pin (other ∷ drivers) =
+    max (cond (same_driver driver other) (slice_index needs pin + 1) 0) (tap_count needs driver (pin + 1) drivers)
+
+-- the pins of so many taps, from a need on
+abbrev pub taps_from : List ℕ → List Driver → Driver → ℕ → ℕ → List (List ℕ)
+taps_from needs drivers driver need zero = []
+taps_from needs drivers driver need (suc more) = takers needs driver need 0 drivers ∷ taps_from needs drivers driver (need + 1) more
+
+-- The taps of a driver, in the order of the chain: the pins of need 0, which take from the driver itself, then those that
+-- take from DRO 1, and so on. The chain is as long as the largest need.
+abbrev pub taps_at : List ℕ → List Driver → Driver → List (List ℕ)
+taps_at needs drivers driver = taps_from needs drivers driver 0 (tap_count needs driver 0 drivers)
+
+abbrev pub taps_of : Chained → Driver → List (List ℕ)
+taps_of chained driver = taps_at chained.needs (pin_drivers chained.gates) driver
+
+-- a driver is used where it drives a pin
+abbrev pub is_used : Chained → Driver → Bool
+is_used chained driver = list_any (same_driver driver) (pin_drivers chained.gates)
+
+-- the place of a driver in a table of inputs and then gates
+abbrev pub slot : ℕ → Driver → ℕ
+slot inputs (Input i) = i
+slot inputs (Gate k) = inputs + k
+
+-- the pins of a tap, none past the last
+abbrev pub tap_at : List (List ℕ) → ℕ → List ℕ
+tap_at taps need = slice_index_or taps need []
+
+-- what a table of taps has, with what the pins from a number on add to it, is what all pins make
+pub record Gathers (inputs gates : ℕ) (needs : List ℕ) (drivers : List Driver) (table : List (List (List ℕ))) (pin : ℕ) (rest : List Driver) : Type 0 where
+  pub count : (driver : Driver) → IsThere inputs gates driver → max (length (slice_index_or table (slot inputs driver) [])) (tap_count needs driver pin rest) ≡ tap_count needs driver 0 drivers
+  pub pins : (driver : Driver) (need : ℕ) → IsThere inputs gates driver → tap_at (slice_index_or table (slot inputs driver) []) need ++ takers needs driver need pin rest ≡ takers needs driver need 0 drivers
+
+-- the table has the taps of each driver
+abbrev pub HasTaps : ℕ → ℕ → List ℕ → List Driver → List (List (List ℕ)) → Type 0
+HasTaps inputs gates needs drivers table = (driver : Driver) → IsThere inputs gates driver → slice_index_or table (slot inputs driver) [] ≡ taps_at needs drivers driver
+
+-- the stage of a driver: 0 of an input, and a gate's own
+abbrev pub driver_stage : Chained → Driver → ℕ
+driver_stage chained (Input i) = 0
+driver_stage chained (Gate k) = slice_index chained.stages k
+
+-- the stage of what each pin takes from, a driver or a DRO of its chain, fits 32 bits
+abbrev pub StagesFit : Chained → Type 0
+StagesFit chained =
+    (pin : ℕ) (d : Driver) → pin < length (pin_drivers chained.gates)
+    → driver_stage chained (slice_index_or (pin_drivers chained.gates) pin d) + chained.n * slice_index chained.needs pin < 2 ^ 32
+
+-- which gates with shared chains can be laid out: well formed, with fewer than 2 ^ 31 pins and stages that fit
+pub record CanSplit (chained : Chained) : Type 0 where
+  pub formed : IsGateNet chained.gates
+  pub few_pins : length (pin_drivers chained.gates) < 2 ^ 31
+  pub stages : StagesFit chained
+
+-- gates with their chains and the table of their taps, of which the pins and the stages fit
+pub record IsTapped (chained : Chained) (table : List (List (List ℕ))) : Type 0 where
+  pub formed : IsGateNet chained.gates
+  pub few_pins : length (pin_drivers chained.gates) < 2 ^ 31
+  pub fits : StagesFit chained
+  pub each : length table ≡ chained.gates.inputs + length chained.gates.gates
+  pub taps : HasTaps chained.gates.inputs (length chained.gates.gates) chained.needs (pin_drivers chained.gates) table
