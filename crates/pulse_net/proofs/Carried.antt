@@ -1,4 +1,10 @@
 -- Pulses against row values, wire by wire: the induction over a netlist's elements.
+--
+-- Three folds go over the same wires in the same order: stages, values over row c, and signals. Where they agree on all
+-- wires made so far, they agree on those of the next element. A splitter hands on what it has. For a cell of stage s, look
+-- at tick n * c + s. A pin's wire has a stage s - D, where 1 to n is the gap D, and by the window lemma what pulsed on the
+-- pin within the n ticks before is what the wire does at tick n * c + (s - D): its value over row c. So the cell computes
+-- its value of the pins' values. At ticks that are not s modulo n it has no clock. No induction over ticks is needed.
 use Rattle.std.proofs.Common.{◌≡◌, ℕ, suc, ◌+◌, ◌*◌, ◌%◌, Bool, true, false, List, [], ◌∷◌, ◌++◌, map, get_or, refl, sym, ap, subst, ◌∙◌, arith}
 use Rattle.std.specs.Prelude.{Option, Some, None, unwrap_or, ◌==◌, if◌then◌else◌}
 use Rattle.std.proofs.lemmas.Bool.{eqb-true, eq-eqb, true≢false}

@@ -4,6 +4,7 @@ mod Spread
 pub mod Steps
 pub mod Once
 pub mod Unbroken
+mod Least
 mod Carried
 pub mod Law
 mod Tables

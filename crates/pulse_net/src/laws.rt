@@ -1,12 +1,17 @@
 //! What the rules and the pulses mean, as laws on every netlist. A law takes nothing and does nothing: its clause is the law.
 
-ghost use Rattle.pulse_net.specs.Laws.{PulsesAreRowValues, ReadsAreRowValues, UnbrokenIsWired};
+ghost use Rattle.pulse_net.specs.Laws.{NamesTheLeast, PulsesAreRowValues, ReadsAreRowValues, UnbrokenIsWired};
 
 /// No rule is broken exactly where each wire is made once and used once, each element's sources are made before it, and
 /// each pin and each output is read 1 to n ticks after its wire's stage, for n phases; and where the latency is 1 if no
 /// output has a wire.
 pub fn unbroken_is_wired()
     ensures { UnbrokenIsWired }
+{}
+
+/// Of the wires that are made and aren't used, the least is named.
+pub fn least_unused_is_named()
+    ensures { NamesTheLeast }
 {}
 
 /// In a valid netlist with n phases, under one row of inputs per n ticks, a wire of stage s pulses only at ticks that are

@@ -7,9 +7,10 @@
 //! a valid netlist.
 //!
 //! Promised: `valid` answers `Ok` exactly where no rule is broken, and else names the first broken one by place and cause.
-//! `unbroken_is_wired` says the rules once more, of the netlist as it stands. `pulses_are_row_values` and
-//! `reads_are_row_values` say that in a valid netlist what pulses, and what is read at the outputs, is the values that
-//! the cells compute of each row of inputs, for every number of phases and every list of rows. Only `valid` takes memory.
+//! `unbroken_is_wired` says the rules once more, of the netlist as it stands, and `least_unused_is_named` which wire is
+//! named at the close. `pulses_are_row_values` and `reads_are_row_values` say that in a valid netlist what pulses, and
+//! what is read at the outputs, is what the cells compute of each row of inputs, for every number of phases and every
+//! list of rows. Only `valid` takes memory.
 //! Not promised: that a chip behaves so. There are no picoseconds, bias currents or clock skew in this model.
 //!
 //! Read `specs/Formed.antt` and `specs/Validity.antt` for the rules in order, `specs/Wires.antt` for the fold that says
@@ -29,6 +30,8 @@ mod wires;
 
 pub use fault::{Invalid, Place, ValidFault, Wrong};
 pub use formed::is_formed;
-pub use laws::{pulses_are_row_values, reads_are_row_values, unbroken_is_wired};
+pub use laws::{
+    least_unused_is_named, pulses_are_row_values, reads_are_row_values, unbroken_is_wired,
+};
 pub use net::{Element, MAX_PHASES, Names, Outlet, PulseNet};
 pub use validity::valid;

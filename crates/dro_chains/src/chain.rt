@@ -1,0 +1,136 @@
+//! The chains of a gate netlist.
+
+ghost use Rattle.std.specs.Prelude.{◌≡◌, ◌≤◌, ◌<◌, ◌↔◌, IsTrue, IfOk, IfErr, sum};
+ghost use Rattle.gate_net.specs.Net.{IsGateNet};
+ghost use Rattle.flow_net.specs.Network.{network_of};
+ghost use Rattle.flow_net.specs.Epochs.{dro_count};
+ghost use Rattle.dro_chains.specs.Chains.{CanChain, chained_of, Refuses};
+ghost use Rattle.dro_chains.specs.declared.chain.ChainFault.TheVariants.{NoMemory as OutOfMemory};
+
+use crate::parts::{chain_lengths, do_stages_fit, needs, stages, total};
+use flow_net::{Epochs, MAX_PINS, net_of, pin_count};
+use gate_net::GateNet;
+use net_base::{List, NoMemory};
+use std::alloc::Global;
+use thiserror::Error;
+
+/// The DROs of a netlist at most.
+pub const MAX_DROS: u64 = 1_048_576;
+
+/// Gates with their stages and the chains of DROs behind their drivers.
+#[derive(Debug, Drop)]
+pub struct Chained {
+    /// The gates, as they were given.
+    pub gates: GateNet,
+    /// How many phases there are.
+    pub n: u32,
+    /// The stage of each gate, in ticks.
+    pub stages: List<u32>,
+    /// The sink's epoch.
+    pub latency: u32,
+    /// For each driver how many DROs its chain has.
+    pub lengths: List<u32>,
+    /// For each pin which DRO of its driver's chain it taps, 0 for the driver itself.
+    pub needs: List<u32>,
+}
+
+/// Why there are no chains.
+#[derive(Clone, Copy, Debug, PartialEq, Eq, Error)]
+pub enum ChainFault {
+    /// There would be this many DROs, more than `MAX_DROS`.
+    #[error("too many DROs: {0}")]
+    TooManyDros(u64),
+    /// There was no memory.
+    #[error("out of memory")]
+    NoMemory,
+}
+
+impl From<NoMemory> for ChainFault {
+    ghost from_gives = { λ _ fault. fault ≡ OutOfMemory };
+
+    fn from(_: NoMemory) -> Self {
+        ChainFault::NoMemory
+    }
+}
+
+/// Whether the chains of a well-formed netlist can be told: it has a network, an epoch per gate, and each stage and the
+/// latency fit 32 bits.
+pub fn can_chain(gates: &GateNet, phases: &List<u32>, n: u32, epochs: &Epochs) -> bool
+    requires { IsGateNet gates.now }
+    ensures { IsTrue result ↔ CanChain gates.now phases.now n epochs.now }
+{
+    phases.len() == gates.gates.len()
+        && pin_count(gates) < MAX_PINS
+        && epochs.gates.len() == gates.gates.len()
+        && do_stages_fit(n, epochs.gates.as_slice(), phases.as_slice())
+        && u64::from(n) * u64::from(epochs.sink) < 1 << 32
+}
+
+/// The chains of DROs behind the drivers of a netlist whose gates have these phases and epochs.
+pub fn chains(
+    alloc: Global,
+    gates: GateNet,
+    phases: &List<u32>,
+    n: u32,
+    epochs: &Epochs,
+) -> Result<Chained, ChainFault>
+    requires { CanChain gates phases.now n epochs.now }
+    ensures value { IfOk result (λ chained. chained ≡ chained_of gates phases.now n epochs.now) }
+    ensures fits { IfOk result (λ _. dro_count (network_of gates phases.now) epochs.now ≤ MAX_DROS) }
+    ensures refused { IfErr result (Refuses (dro_count (network_of gates phases.now) epochs.now)) }
+{
+    let net = net_of(alloc, &gates, phases)?;
+    let lengths = chain_lengths(alloc, epochs, net.pins.as_slice(), net.drivers)?;
+    let count = total(lengths.as_slice());
+    if count > MAX_DROS {
+        return Err(ChainFault::TooManyDros(count));
+    }
+    let needs = needs(alloc, epochs, net.pins.as_slice())?;
+    let stages = stages(alloc, n, epochs.gates.as_slice(), phases.as_slice())?;
+    Ok(Chained {
+        gates,
+        n,
+        stages: List::from_vec(stages),
+        latency: epochs.sink,
+        lengths: List::from_vec(lengths),
+        needs: List::from_vec(needs),
+    })
+}
+
+#[cfg(test)]
+mod tests {
+    use super::*;
+    use cell_lib::Cell;
+    use gate_net::{Driver, End};
+    use std::test::Fail;
+
+    #[test]
+    fn one_chain_serves_all_pins_of_the_input(rt: HostRuntime) -> Result<(), Fail> {
+        let alloc = rt.alloc();
+        let input = Driver::Input(0);
+        let mut gates = GateNet::new(alloc, 1);
+        gates.gate(Cell::Not, List::from_vec([input].to_vec(alloc)?))?;
+        gates.gate(
+            Cell::And,
+            List::from_vec([input, Driver::Gate(0)].to_vec(alloc)?),
+        )?;
+        gates.gate(
+            Cell::Or,
+            List::from_vec([Driver::Gate(1), input].to_vec(alloc)?),
+        )?;
+        gates.output(End::From(Driver::Gate(2)))?;
+        assert_eq!(rt; gates.gates.len(), 3);
+        assert_eq!(rt; pin_count(&gates), 6);
+        let phases = List::from_vec([0u32, 0, 0].to_vec(alloc)?);
+        let epochs = Epochs {
+            gates: List::from_vec([1u32, 2, 3].to_vec(alloc)?),
+            sink: 4,
+        };
+        let chained = chains(alloc, gates, &phases, 1, &epochs)?;
+        assert_eq!(rt; chained.lengths.as_slice(), [2u32, 0, 0, 0].as_slice());
+        assert_eq!(rt; chained.needs.as_slice(), [0u32, 1, 0, 0, 2, 0].as_slice());
+        assert_eq!(rt; chained.stages.as_slice(), [1u32, 2, 3].as_slice());
+        assert_eq!(rt; chained.latency, 4);
+        Ok(())
+    }
+}

@@ -1,0 +1,4 @@
+pub mod Uses
+pub mod Network
+pub mod Epochs
+pub mod Flows

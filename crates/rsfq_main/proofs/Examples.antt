@@ -1,0 +1,94 @@
+-- Small texts, words and a netlist by hand, with what the definitions say of them by evaluation: a false definition fails here.
+use Rattle.std.proofs.Common.{◌≡◌, ℕ, List, [], ◌∷◌, Option, Some, None, codes, refl}
+use Rattle.std.specs.Fmt.{digits}
+use Rattle.cell_lib.specs.declared.cell.Cell.TheVariants.{Dro, Not, And}
+use Rattle.pulse_net.specs.declared.net.Element.TheVariants.{Clocked, Split}
+use Rattle.pulse_net.specs.declared.net.Outlet.TheVariants.{Zero, One, Wire}
+use Rattle.pulse_net.specs.declared.net.PulseNet.{PulseNet}
+use Rattle.rsfq_main.specs.declared.design.Design.{Design}
+use Rattle.rsfq_main.specs.declared.fault.Refusal.TheVariants.{NotYet}
+use Rattle.rsfq_main.specs.declared.words.Command.TheVariants.{Map}
+use Rattle.rsfq_main.specs.Words.{command_of}
+use Rattle.rsfq_main.specs.PlainForm.{name_at, names_at, name_line_at, further_name_at, table_at, tables_of, model_line_at, lines_of, plain_design}
+use Rattle.rsfq_main.specs.PlainRules.{signals_of, tree_signals}
+use Rattle.rsfq_main.specs.Spelling.{line, model_lines, header_lines, input_lines, output_lines, spelling_of}
+use Rattle.rsfq_main.specs.Run.{refusal_of}
+
+-- f = a and not b, as two tables
+abbrev two_tables : Design
+two_tables =
+    record {
+      model = codes "t";
+      inputs = codes "a" ∷ codes "b" ∷ [];
+      outputs = codes "f" ∷ [];
+      tables =
+          record { cell = Not; pins = codes "b" ∷ []; target = codes "c" }
+          ∷ record { cell = And; pins = codes "a" ∷ codes "c" ∷ []; target = codes "f" } ∷ [];
+    }
+
+text_of_two_tables : plain_design (codes ".model t\n.inputs a b\n.outputs f\n.names b c\n0 1\n.names a c f\n11 1\n.end\n") ≡ Some two_tables
+unfolding name_at names_at name_line_at further_name_at table_at tables_of model_line_at lines_of plain_design signals_of tree_signals
+text_of_two_tables = refl
+
+-- an input may be an output, and no table is needed
+text_without_tables : plain_design (codes ".model t\n.inputs a\n.outputs a\n.end\n") ≡ Some (record { model = codes "t"; inputs = codes "a" ∷ []; outputs = codes "a" ∷ []; tables = [] })
+unfolding name_at names_at name_line_at further_name_at table_at tables_of model_line_at lines_of plain_design signals_of tree_signals
+text_without_tables = refl
+
+-- the pin b is used twice
+used_twice : refusal_of (codes ".model t\n.inputs a b\n.outputs f g\n.names b f\n0 1\n.names a b g\n11 1\n.end\n") ≡ Some NotYet
+unfolding name_at names_at name_line_at further_name_at table_at tables_of model_line_at lines_of plain_design signals_of tree_signals
+used_twice = refl
+
+-- the second table has no user
+unused_target : refusal_of (codes ".model t\n.inputs a b\n.outputs f\n.names a f\n0 1\n.names b g\n0 1\n.end\n") ≡ Some NotYet
+unfolding name_at names_at name_line_at further_name_at table_at tables_of model_line_at lines_of plain_design signals_of tree_signals
+unused_target = refl
+
+empty_text : refusal_of [] ≡ Some NotYet
+unfolding model_line_at lines_of plain_design
+empty_text = refl
+
+map_alone : command_of (codes "map" ∷ []) ≡ Some Map
+map_alone = refl
+
+one_phase : command_of (codes "map" ∷ codes "phases=1" ∷ []) ≡ Some Map
+one_phase = refl
+
+capital : command_of (codes "Map" ∷ []) ≡ None
+capital = refl
+
+no_words : command_of [] ≡ None
+no_words = refl
+
+-- the netlist of the two tables at one phase
+abbrev one_phase_net : PulseNet
+one_phase_net =
+    record {
+      names = record { model = codes "t"; inputs = codes "a" ∷ codes "b" ∷ []; outputs = codes "f" ∷ [] };
+      phases = 1;
+      latency = 3;
+      inputs = Some 0 ∷ Some 1 ∷ [];
+      elements = Clocked Dro 1 (0 ∷ []) 2 ∷ Clocked Not 1 (1 ∷ []) 3 ∷ Clocked And 2 (2 ∷ 3 ∷ []) 4 ∷ [];
+      outputs = Wire 4 ∷ [];
+    }
+
+spelling_of_one_phase_net : spelling_of one_phase_net [] ≡ codes "rsfq 1\nmodel t\nphases 1\nlatency 3\ninput a 0\ninput b 1\ndro 1 0 2\nnot 1 1 3\nand 2 2 3 4\noutput f 4\nend\n"
+unfolding digits line model_lines header_lines input_lines output_lines
+spelling_of_one_phase_net = refl
+
+-- every other form of a line: a splitter, an input without a wire, constants, and a flow
+abbrev other_lines : PulseNet
+other_lines =
+    record {
+      names = record { model = codes "m"; inputs = codes "a" ∷ codes "b" ∷ []; outputs = codes "f" ∷ codes "g" ∷ codes "h" ∷ [] };
+      phases = 16;
+      latency = 20;
+      inputs = None ∷ Some 0 ∷ [];
+      elements = Split 0 1 12 ∷ [];
+      outputs = Zero ∷ One ∷ Wire 12 ∷ [];
+    }
+
+spelling_of_other_lines : spelling_of other_lines ((2, 1) ∷ (0, 10) ∷ []) ≡ codes "rsfq 1\nmodel m\nphases 16\nlatency 20\ninput a -\ninput b 0\nsplit 0 1 12\noutput f zero\noutput g one\noutput h 12\nflow 2 1\nflow 0 10\nend\n"
+unfolding digits line model_lines header_lines input_lines output_lines
+spelling_of_other_lines = refl

@@ -1,0 +1,7 @@
+pub mod Words
+pub mod PlainForm
+pub mod PlainRules
+pub mod PlainReading
+pub mod Spelling
+pub mod Faults
+pub mod Run
