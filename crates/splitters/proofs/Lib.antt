@@ -1,4 +1,6 @@
 pub mod Trees
 pub mod TapLemmas
 pub mod LayoutLemmas
+pub mod WiredCounts
+pub mod WiredFrontier
 pub mod Examples
