@@ -3,4 +3,5 @@ pub mod TapLemmas
 pub mod LayoutLemmas
 pub mod WiredCounts
 pub mod WiredFrontier
+pub mod WiredPins
 pub mod Examples

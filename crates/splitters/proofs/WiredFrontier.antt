@@ -196,5 +196,3 @@ IsSpread-tree (suc depth) (suc (suc more)) phases first start elements next rest
     subst (λ (es : List Element). IsSpread phases first start es (next + 2 * (suc (suc more) - 1)) rest stage (left_wires ++ right_wires)) all_lines
     (subst (λ n. IsSpread phases first start ((lines ++ left_lines) ++ right_lines) n rest stage (left_wires ++ right_wires)) f whole)
 
-pub law : (n : ℕ) → n ≡ n
-law n = refl
