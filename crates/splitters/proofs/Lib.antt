@@ -4,4 +4,5 @@ pub mod LayoutLemmas
 pub mod WiredCounts
 pub mod WiredFrontier
 pub mod WiredPins
+pub mod WiredChains
 pub mod Examples

@@ -152,3 +152,7 @@ AreStaged-held made stage marks needs driver need s pin (other ∷ drivers) wire
       go wires (set taken pin wire) (omega arith) (length-set taken pin wire) are.1
       (AreStaged-set made stage marks needs taken pin wire (pin + 1) drivers (omega arith) h.1))
 
+pub length-taken : (pins wires taken : List ℕ) → length (take_wires pins wires taken) ≡ length taken
+length-taken [] wires taken = refl
+length-taken (pin ∷ pins) [] taken = refl
+length-taken (pin ∷ pins) (wire ∷ wires) taken = length-taken pins wires (set taken pin wire) ∙ length-set taken pin wire
