@@ -1,5 +1,6 @@
 -- How often a wire stands in a list, wires in a run of numbers, and what stays found while elements follow.
 use Rattle.std.proofs.Common.{◌≡◌, ◌≤◌, ◌<◌, ℕ, zero, suc, ◌+◌, Bool, true, false, cond, nat_eq, List, [], ◌∷◌, ◌++◌, refl, ap, sym, ◌∙◌, arith}
+use Rattle.std.proofs.lemmas.Bool.{true≢false, eqb-true}
 use Rattle.std.specs.Prelude.{Option, Some, None, ⊤, flat_map}
 use Rattle.std.specs.Map.{lookup}
 use Rattle.std.specs.Cmp.{nat_eq_equiv}
@@ -85,3 +86,13 @@ AreFound-stay made elements stage (wire ∷ wires) h = (after-stays made element
 
 pub same-found : (wire : ℕ) → nat_eq wire wire ≡ true
 same-found wire = nat_eq_equiv.refl wire
+-- wires that differ
+pub nat_eq-other : (a b : ℕ) → (a ≡ b → ⊥) → nat_eq a b ≡ false
+nat_eq-other a b apart = by (nat_eq a b) refl
+  where
+    by : (same : Bool) → nat_eq a b ≡ same → same ≡ false
+    by true e = absurd (apart (eqb-true a b e))
+    by false e = refl
+
+pub nat_eq-differs : (a b : ℕ) → nat_eq a b ≡ false → a ≡ b → ⊥
+nat_eq-differs a b e same = true≢false (sym (nat_eq_equiv.refl a) ∙ ap (nat_eq a) same ∙ e)

@@ -16,7 +16,7 @@ use Rattle.pulse_net.specs.Wires.{Wires, found, carried, element_wires, element_
 use Rattle.pulse_net.specs.Wired.{element_makes, ArriveInTime, ElementInTime, ElementsInTime}
 use Rattle.splitters.specs.Spread.{first_half, tree_lines, tree_wires, spread_lines, spread_wires}
 use Rattle.splitters.proofs.Trees.{half-below, rest-below, tree_wires-depth}
-use Rattle.splitters.proofs.WiredCounts.{once, times, times-append, run, run-append, run-split, found-behind, after, after-append, after-stays, in_time-append, AreFound, AreFound-append, AreFound-stay, same-found}
+use Rattle.splitters.proofs.WiredCounts.{once, times, times-append, run, run-append, run-split, found-behind, after, after-append, after-stays, in_time-append, AreFound, AreFound-append, AreFound-stay, same-found, nat_eq-other}
 
 -- Elements are laid out behind `first` wires of inputs, with the wires below `next` made, and this often each wire waits.
 pub record IsLaid (phases first : ℕ) (start : Wires ℕ) (elements : List Element) (next : ℕ) (waits : ℕ → ℕ) : Type 0 where
@@ -95,14 +95,6 @@ found-last start elements element wire stage new here =
     ap (λ (made : Wires ℕ). found made wire) (after-append start elements (element ∷ []))
     ∙ found-behind (after start elements) (element_wires 0 cell_stage (after start elements) element) wire new
     ∙ here
-
--- wires that differ
-pub nat_eq-other : (a b : ℕ) → (a ≡ b → ⊥) → nat_eq a b ≡ false
-nat_eq-other a b apart = by (nat_eq a b) refl
-  where
-    by : (same : Bool) → nat_eq a b ≡ same → same ≡ false
-    by true e = absurd (apart (eqb-true a b e))
-    by false e = refl
 
 -- a clocked cell takes wires that wait, and makes the next, which waits
 pub IsLaid-cell : (phases first : ℕ) (start : Wires ℕ) (elements : List Element) (next : ℕ) (rest : ℕ → ℕ) (cell : Cell) (stage : ℕ) (pins : List ℕ) →
