@@ -5,4 +5,5 @@ pub mod WiredCounts
 pub mod WiredFrontier
 pub mod WiredPins
 pub mod WiredChains
+pub mod WiredGates
 pub mod Examples
