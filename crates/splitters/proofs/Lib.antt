@@ -6,4 +6,5 @@ pub mod WiredFrontier
 pub mod WiredPins
 pub mod WiredChains
 pub mod WiredGates
+pub mod WiredInputs
 pub mod Examples

@@ -96,3 +96,11 @@ nat_eq-other a b apart = by (nat_eq a b) refl
 
 pub nat_eq-differs : (a b : ℕ) → nat_eq a b ≡ false → a ≡ b → ⊥
 nat_eq-differs a b e same = true≢false (sym (nat_eq_equiv.refl a) ∙ ap (nat_eq a) same ∙ e)
+
+pub once-same : (wire other : ℕ) → nat_eq wire other ≡ true → once wire other ≡ 1
+unfolding once
+once-same wire other e = ap (λ b. cond b 1 0) e
+
+pub once-other : (wire other : ℕ) → nat_eq wire other ≡ false → once wire other ≡ 0
+unfolding once
+once-other wire other e = ap (λ b. cond b 1 0) e
