@@ -7,4 +7,5 @@ pub mod WiredPins
 pub mod WiredChains
 pub mod WiredGates
 pub mod WiredInputs
+pub mod WiredWhole
 pub mod Examples

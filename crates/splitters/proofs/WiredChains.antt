@@ -263,7 +263,7 @@ by_driver reached = λ driver need. reached driver
 abbrev pub and_driver : (Driver → Bool) → Driver → (Driver → Bool)
 and_driver reached driver = λ other. reached other || same_driver driver other
 
-tap_count-late : (needs : List ℕ) (driver : Driver) (pin : ℕ) (used rest : List Driver) → DrivesNone driver used → tap_count needs driver pin (used ++ rest) ≡ tap_count needs driver (pin + length used) rest
+pub tap_count-late : (needs : List ℕ) (driver : Driver) (pin : ℕ) (used rest : List Driver) → DrivesNone driver used → tap_count needs driver pin (used ++ rest) ≡ tap_count needs driver (pin + length used) rest
 tap_count-late needs driver pin [] rest none = let e : pin ≡ pin + 0 = omega arith in ap (λ p. tap_count needs driver p rest) e
 tap_count-late needs driver pin (other ∷ used) rest none =
     let e : (pin + 1) + length used ≡ pin + suc (length used) = omega arith in

@@ -91,7 +91,7 @@ abbrev pub before_gate : ℕ → Driver → Bool
 before_gate gate (Input i) = true
 before_gate gate (Gate k) = nat_lt k gate
 
-before_gate-there : (inputs gate : ℕ) (drivers : List Driver) → All (IsThere inputs gate) drivers → AreReached (before_gate gate) drivers
+pub before_gate-there : (inputs gate : ℕ) (drivers : List Driver) → All (IsThere inputs gate) drivers → AreReached (before_gate gate) drivers
 before_gate-there inputs gate [] all = tt
 before_gate-there inputs gate (driver ∷ drivers) all = (by driver (All-head (IsThere inputs gate) driver drivers all), before_gate-there inputs gate drivers (All-tail (IsThere inputs gate) driver drivers all))
   where
@@ -99,7 +99,7 @@ before_gate-there inputs gate (driver ∷ drivers) all = (by driver (All-head (I
     by (Input i) there = refl
     by (Gate k) there = lt-ltb k gate there
 
-DrivesNone-there : (inputs gate later : ℕ) (drivers : List Driver) → gate ≤ later → All (IsThere inputs gate) drivers → DrivesNone (Gate later) drivers
+pub DrivesNone-there : (inputs gate later : ℕ) (drivers : List Driver) → gate ≤ later → All (IsThere inputs gate) drivers → DrivesNone (Gate later) drivers
 DrivesNone-there inputs gate later [] low all = tt
 DrivesNone-there inputs gate later (driver ∷ drivers) low all = (by driver (All-head (IsThere inputs gate) driver drivers all), DrivesNone-there inputs gate later drivers low (All-tail (IsThere inputs gate) driver drivers all))
   where
@@ -107,7 +107,7 @@ DrivesNone-there inputs gate later (driver ∷ drivers) low all = (by driver (Al
     by (Input i) there = refl
     by (Gate k) there = nat_eq-other later k (λ e. omega arith)
 
-DrivesNone-append : (driver : Driver) (xs ys : List Driver) → DrivesNone driver xs → DrivesNone driver ys → DrivesNone driver (xs ++ ys)
+pub DrivesNone-append : (driver : Driver) (xs ys : List Driver) → DrivesNone driver xs → DrivesNone driver ys → DrivesNone driver (xs ++ ys)
 DrivesNone-append driver [] ys before rest = rest
 DrivesNone-append driver (x ∷ xs) ys before rest = (before.0, DrivesNone-append driver xs ys before.1 rest)
 

@@ -3,9 +3,11 @@
 
 mod chained;
 mod drivers;
+mod laws;
 mod layout;
 mod spread;
 mod table;
 mod taps;
 
 pub use chained::Chained;
+pub use laws::layout_is_valid;
