@@ -8,4 +8,5 @@ pub mod WiredChains
 pub mod WiredGates
 pub mod WiredInputs
 pub mod WiredWhole
+pub mod WiredTimes
 pub mod Examples

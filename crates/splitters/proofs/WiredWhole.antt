@@ -111,7 +111,7 @@ ends-reached inputs gates (From driver ∷ ends) all =
     by (Input i) there = refl
     by (Gate k) there = lt-ltb k gates there
 
-gates-from : (inputs gate : ℕ) (rows : List GateRow) → ((place : ℕ) (d : GateRow) → place < length rows → IsGate inputs (gate + place) (get_or rows place d)) → AreGatesFrom inputs gate rows
+pub gates-from : (inputs gate : ℕ) (rows : List GateRow) → ((place : ℕ) (d : GateRow) → place < length rows → IsGate inputs (gate + place) (get_or rows place d)) → AreGatesFrom inputs gate rows
 gates-from inputs gate [] h = tt
 gates-from inputs gate (row ∷ rows) h =
     let z : gate + 0 ≡ gate = omega arith in

@@ -6,6 +6,9 @@ use Rattle.gate_net.specs.Net.{pin_drivers, end_drivers, IsGateNet, EachGateIsUs
 use Rattle.pulse_net.specs.declared.net.Names.{Names}
 use Rattle.pulse_net.specs.Wired.{IsInTime}
 use Rattle.pulse_net.specs.Validity.{IsValid}
+use Rattle.gate_net.specs.declared.net.GateNet.{GateNet}
+use Rattle.flow_net.specs.declared.net.Epochs.{Epochs}
+use Rattle.dro_chains.specs.Chains.{HasChains, chained_of}
 use Rattle.splitters.specs.declared.chained.Chained.{Chained}
 use Rattle.splitters.specs.Taps.{driver_stage}
 use Rattle.splitters.specs.Elements.{gate_pins, elements_of}
@@ -46,3 +49,15 @@ pub record HasNames (chained : Chained) (names : Names) : Type 0 where
 -- Where the chains keep time, the netlist is valid.
 abbrev pub LayoutIsValid : Type 0
 LayoutIsValid = (chained : Chained) (names : Names) → KeepsTime chained → HasNames chained names → IsValid (elements_of chained names)
+
+-- these are the chains of a netlist whose gates have these phases and epochs
+pub record AreChains (chained : Chained) (net : GateNet) (phases : List ℕ) (n : ℕ) (epochs : Epochs) : Type 0 where
+  pub gates : chained.gates ≡ net
+  pub count : chained.n ≡ n
+  pub stages : chained.stages ≡ (chained_of net phases n epochs).stages
+  pub latency : chained.latency ≡ (chained_of net phases n epochs).latency
+  pub needs : chained.needs ≡ (chained_of net phases n epochs).needs
+
+-- The chains of balanced epochs keep time.
+abbrev pub ChainsKeepTime : Type 0
+ChainsKeepTime = (net : GateNet) (phases : List ℕ) (n : ℕ) (epochs : Epochs) (chained : Chained) → HasChains net phases n epochs → AreChains chained net phases n epochs → KeepsTime chained

@@ -10,4 +10,4 @@ mod table;
 mod taps;
 
 pub use chained::Chained;
-pub use laws::layout_is_valid;
+pub use laws::{chains_keep_time, layout_is_valid};
