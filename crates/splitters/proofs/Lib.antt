@@ -2,4 +2,12 @@ pub mod Trees
 pub mod TapLemmas
 pub mod PinLemmas
 pub mod LayoutLemmas
+pub mod WiredCounts
+pub mod WiredFrontier
+pub mod WiredPins
+pub mod WiredChains
+pub mod WiredGates
+pub mod WiredInputs
+pub mod WiredWhole
+pub mod WiredTimes
 pub mod Examples

@@ -1,3 +1,4 @@
 pub mod Spread
 pub mod Taps
 pub mod Elements
+pub mod Laws

@@ -1,0 +1,324 @@
+-- A chain: each tap spreads a wire, its pins wait with their wires, and a DRO goes on n stages later.
+use Rattle.std.proofs.Common.{◌≡◌, ◌≤◌, ◌<◌, ℕ, zero, suc, ◌+◌, ◌-◌, ◌*◌, max, Bool, true, false, cond, nat_eq, ◌&&◌, ◌||◌, ◌==◌, List, [], ◌∷◌, ◌++◌, length, get_or, drop, refl, ap, sym, subst, ◌∙◌, arith, append_assoc}
+use Rattle.std.proofs.lemmas.Bool.{true≢false, eqb-true, or_left, or_right}
+use Rattle.std.specs.Prelude.{Option, Some, None, ⊤, slice_index}
+use Rattle.std.proofs.Math.Nat.{mul-suc}
+use Rattle.cell_lib.specs.declared.cell.Cell.TheVariants.{Dro}
+use Rattle.gate_net.specs.declared.row.Driver.{Driver}
+use Rattle.gate_net.specs.Rows.{same_driver}
+use Rattle.pulse_net.specs.declared.net.Element.{Element}
+use Rattle.pulse_net.specs.declared.net.Element.TheVariants.{Clocked, Split}
+use Rattle.pulse_net.specs.Wires.{Wires, found}
+use Rattle.pulse_net.specs.Wired.{ArriveInTime}
+use Rattle.splitters.specs.Spread.{spread_lines, spread_wires}
+use Rattle.splitters.specs.Elements.{Layout, take_wires, with_cell, with_spread, with_last, with_tap, with_dro, with_chain, tap_wires}
+use Rattle.splitters.specs.Taps.{with_pin, takers, tap_count, taps_from, taps_at}
+use Rattle.splitters.proofs.Trees.{length-spread_wires}
+use Rattle.splitters.proofs.WiredCounts.{once, times, times-append, after, after-append, AreFound, nat_eq-other, nat_eq-differs}
+use Rattle.splitters.proofs.WiredFrontier.{IsLaid, IsLaid-waits, IsLaid-cell, IsSpread, IsSpread-tree}
+use Rattle.splitters.proofs.WiredPins.{Marks, held, AreStaged, Agree, Agree-all, held-agree, AreStaged-agree, AreStaged-stay, and_tap, IsNew, times-held, AreStaged-held, length-taken}
+
+-- What stands after a part of the layout: the rules hold but for wires that wait, and the pins from a number on wait with
+-- their wires where their taps are laid out; beside them this often each wire waits.
+pub record Stands (phases first : ℕ) (start : Wires ℕ) (stage : Driver → ℕ → ℕ) (needs : List ℕ) (pin : ℕ) (rest : List Driver) (marks : Marks) (waits : ℕ → ℕ) (layout : Layout) : Type 0 where
+  pub laid : IsLaid phases first start layout.elements layout.next (λ w. waits w + times w (held marks needs layout.taken pin rest))
+  pub staged : AreStaged (after start layout.elements) stage marks needs layout.taken pin rest
+  pub room : pin + length rest ≤ length layout.taken
+
+pub AreStaged-step : (start : Wires ℕ) (elements more : List Element) (stage : Driver → ℕ → ℕ) (marks : Marks) (needs taken : List ℕ) (pin : ℕ) (drivers : List Driver) →
+    AreStaged (after start elements) stage marks needs taken pin drivers → AreStaged (after start (elements ++ more)) stage marks needs taken pin drivers
+AreStaged-step start elements more stage marks needs taken pin drivers h =
+    subst (λ (made : Wires ℕ). AreStaged made stage marks needs taken pin drivers) (sym (after-append start elements more)) (AreStaged-stay (after start elements) more stage marks needs taken pin drivers h)
+
+pub Stands-agree : (phases first : ℕ) (start : Wires ℕ) (stage : Driver → ℕ → ℕ) (needs : List ℕ) (pin : ℕ) (rest : List Driver) (marks others : Marks) (waits : ℕ → ℕ) (layout : Layout) →
+    Agree marks others needs pin rest → Stands phases first start stage needs pin rest marks waits layout → Stands phases first start stage needs pin rest others waits layout
+Stands-agree phases first start stage needs pin rest marks others waits layout same h = record {
+  laid = IsLaid-waits phases first start layout.elements layout.next (λ w. waits w + times w (held marks needs layout.taken pin rest)) (λ w. waits w + times w (held others needs layout.taken pin rest))
+      (λ w. ap (λ (l : List ℕ). waits w + times w l) (held-agree marks others needs layout.taken pin rest same)) h.laid;
+  staged = AreStaged-agree (after start layout.elements) stage marks others needs layout.taken pin rest same h.staged;
+  room = h.room;
+}
+
+-- The last tap: its wire is spread over its pins.
+pub Stands-last : (phases first : ℕ) (start : Wires ℕ) (stage : Driver → ℕ → ℕ) (needs : List ℕ) (pin : ℕ) (rest : List Driver) (marks : Marks) (waits : ℕ → ℕ) (layout : Layout)
+    (driver : Driver) (need s wire : ℕ) →
+    Stands phases first start stage needs pin rest marks (λ w. once w wire + waits w) layout →
+    found (after start layout.elements) wire ≡ Some s →
+    ((other : Driver) (its : ℕ) → (same_driver driver other && (its == need)) ≡ true → stage other its ≡ s) →
+    IsNew marks driver need →
+    1 ≤ length (takers needs driver need pin rest) →
+    Stands phases first start stage needs pin rest (and_tap marks driver need) waits (with_last wire (takers needs driver need pin rest) layout)
+Stands-last phases first start stage needs pin rest marks waits layout driver need s wire h source level new some =
+    let pins = takers needs driver need pin rest in
+    let wires = spread_wires wire layout.next (length pins) in
+    let lines = spread_lines wire layout.next (length pins) in
+    let old : ℕ → ℕ = λ w. waits w + times w (held marks needs layout.taken pin rest) in
+    let spread = IsSpread-tree (length pins) (length pins) phases first start layout.elements layout.next old wire s (omega arith) some
+    (IsLaid-waits phases first start layout.elements layout.next (λ w. (once w wire + waits w) + times w (held marks needs layout.taken pin rest)) (λ w. once w wire + old w) (λ w. omega arith) h.laid)
+    source in
+    let each : length wires ≡ length pins = length-spread_wires wire layout.next (length pins) in
+    record {
+      laid = IsLaid-waits phases first start (layout.elements ++ lines) (layout.next + 2 * (length pins - 1)) (λ w. times w wires + old w)
+          (λ w. waits w + times w (held (and_tap marks driver need) needs (take_wires pins wires layout.taken) pin rest))
+          (λ w. let e = times-held marks needs driver need pin rest wires layout.taken w new each h.room in omega (arith, e)) spread.laid;
+      staged = AreStaged-held (after start (layout.elements ++ lines)) stage marks needs driver need s pin rest wires layout.taken level new each h.room spread.stages
+          (AreStaged-step start layout.elements lines stage marks needs layout.taken pin rest h.staged);
+      room = let e = length-taken pins wires layout.taken in let r = h.room in omega (arith, e, r);
+    }
+
+-- A tap where the chain goes on: the first target is the next DRO, which stands n stages later.
+pub record GoesOn (phases first : ℕ) (start : Wires ℕ) (stage : Driver → ℕ → ℕ) (needs : List ℕ) (pin : ℕ) (rest : List Driver) (marks : Marks) (waits : ℕ → ℕ) (layout : Layout) (wire s : ℕ) : Type 0 where
+  pub stands : Stands phases first start stage needs pin rest marks (λ w. once w wire + waits w) layout
+  pub source : found (after start layout.elements) wire ≡ Some s
+
+-- the same, where the wires of the targets are given
+pub GoesOn-wires : (phases first : ℕ) (start : Wires ℕ) (stage : Driver → ℕ → ℕ) (needs : List ℕ) (pin : ℕ) (rest : List Driver) (marks : Marks) (waits : ℕ → ℕ) (elements : List Element) (next : ℕ) (taken : List ℕ)
+    (driver : Driver) (need s : ℕ) (wires : List ℕ) →
+    1 ≤ phases →
+    ((other : Driver) (its : ℕ) → (same_driver driver other && (its == need)) ≡ true → stage other its ≡ s) →
+    IsNew marks driver need →
+    pin + length rest ≤ length taken →
+    length wires ≡ length (takers needs driver need pin rest) + 1 →
+    IsSpread phases first start elements next (λ w. waits w + times w (held marks needs taken pin rest)) s wires →
+    AreStaged (after start elements) stage marks needs taken pin rest →
+    GoesOn phases first start stage needs pin rest (and_tap marks driver need) waits
+    (with_cell Dro (s + phases) (slice_index wires 0 ∷ []) (record { next = next; elements = elements; taken = take_wires (takers needs driver need pin rest) (drop 1 wires) taken }))
+    next (s + phases)
+GoesOn-wires phases first start stage needs pin rest marks waits elements next taken driver need s [] some level new room each spread staged = absurd (omega arith)
+GoesOn-wires phases first start stage needs pin rest marks waits elements next taken driver need s (head ∷ wires) some level new room each spread staged =
+    let pins = takers needs driver need pin rest in
+    let old : ℕ → ℕ = λ w. waits w + times w (held marks needs taken pin rest) in
+    let few : length wires ≡ length pins = omega arith in
+    let cell = IsLaid-cell phases first start elements next (λ w. times w wires + old w) Dro (s + phases) (head ∷ [])
+    (IsLaid-waits phases first start elements next (λ w. times w (head ∷ wires) + old w) (λ w. times w (head ∷ []) + (times w wires + old w)) (λ w. omega arith) spread.laid)
+    refl
+    ((s, spread.stages.0, record { after = omega arith; within = omega arith }), tt) in
+    let line = Clocked Dro (s + phases) (head ∷ []) next in
+    record {
+      stands = record {
+        laid = IsLaid-waits phases first start (elements ++ line ∷ []) (next + 1) (λ w. once w next + (times w wires + old w))
+            (λ w. (once w next + waits w) + times w (held (and_tap marks driver need) needs (take_wires pins wires taken) pin rest))
+            (λ w. let e = times-held marks needs driver need pin rest wires taken w new few room in omega (arith, e)) cell.0;
+        staged = AreStaged-step start elements (line ∷ []) stage (and_tap marks driver need) needs (take_wires pins wires taken) pin rest
+            (AreStaged-held (after start elements) stage marks needs driver need s pin rest wires taken level new few room spread.stages.1 staged);
+        room = let e = length-taken pins wires taken in omega (arith, e);
+      };
+      source = cell.1;
+    }
+
+pub GoesOn-dro : (phases first : ℕ) (start : Wires ℕ) (stage : Driver → ℕ → ℕ) (needs : List ℕ) (pin : ℕ) (rest : List Driver) (marks : Marks) (waits : ℕ → ℕ) (layout : Layout)
+    (driver : Driver) (need s wire : ℕ) →
+    1 ≤ phases →
+    GoesOn phases first start stage needs pin rest marks waits layout wire s →
+    ((other : Driver) (its : ℕ) → (same_driver driver other && (its == need)) ≡ true → stage other its ≡ s) →
+    IsNew marks driver need →
+    GoesOn phases first start stage needs pin rest (and_tap marks driver need) waits
+    (with_dro (s + phases) wire (takers needs driver need pin rest) layout) ((with_tap wire (takers needs driver need pin rest) layout).next) (s + phases)
+GoesOn-dro phases first start stage needs pin rest marks waits layout driver need s wire some h level new =
+    let pins = takers needs driver need pin rest in
+    let targets = length pins + 1 in
+    let old : ℕ → ℕ = λ w. waits w + times w (held marks needs layout.taken pin rest) in
+    let spread = IsSpread-tree targets targets phases first start layout.elements layout.next old wire s (omega arith) (omega arith)
+    (IsLaid-waits phases first start layout.elements layout.next (λ w. (once w wire + waits w) + times w (held marks needs layout.taken pin rest)) (λ w. once w wire + old w) (λ w. omega arith) h.stands.laid)
+    h.source in
+    GoesOn-wires phases first start stage needs pin rest marks waits (layout.elements ++ spread_lines wire layout.next targets) (layout.next + 2 * (targets - 1)) layout.taken driver need s
+    (spread_wires wire layout.next targets) some level new h.stands.room (length-spread_wires wire layout.next targets) spread
+    (AreStaged-step start layout.elements (spread_lines wire layout.next targets) stage marks needs layout.taken pin rest h.stands.staged)
+
+-- a driver drives none of these pins
+abbrev pub DrivesNone : Driver → List Driver → Type 0
+DrivesNone driver [] = ⊤
+DrivesNone driver (other ∷ others) = (same_driver driver other ≡ false) × DrivesNone driver others
+
+-- The pins of a tap stand behind those that its driver doesn't drive.
+pub takers-late : (needs : List ℕ) (driver : Driver) (need pin : ℕ) (used rest : List Driver) → DrivesNone driver used →
+    takers needs driver need pin (used ++ rest) ≡ takers needs driver need (pin + length used) rest
+takers-late needs driver need pin [] rest none = let e : pin ≡ pin + 0 = omega arith in ap (λ p. takers needs driver need p rest) e
+takers-late needs driver need pin (other ∷ used) rest none =
+    let e : (pin + 1) + length used ≡ pin + suc (length used) = omega arith in
+    ap (λ b. with_pin (b && (get_or needs pin 0 == need)) pin (takers needs driver need (pin + 1) (used ++ rest))) none.0
+    ∙ takers-late needs driver need (pin + 1) used rest none.1
+    ∙ ap (λ p. takers needs driver need p rest) e
+
+-- the last tap has a pin
+pub takers-last : (needs : List ℕ) (driver : Driver) (need pin : ℕ) (drivers : List Driver) → tap_count needs driver pin drivers ≡ suc need → 1 ≤ length (takers needs driver need pin drivers)
+takers-last needs driver need pin [] h = absurd (omega arith)
+takers-last needs driver need pin (other ∷ drivers) h =
+    by (same_driver driver other) (get_or needs pin 0 == need) (λ e. eqb-true (get_or needs pin 0) need e) (λ ne. nat_eq-differs (get_or needs pin 0) need ne) h (takers-last needs driver need (pin + 1) drivers)
+  where
+    by : (same here : Bool) → (here ≡ true → get_or needs pin 0 ≡ need) → (here ≡ false → get_or needs pin 0 ≡ need → ⊥) →
+        max (cond same (get_or needs pin 0 + 1) 0) (tap_count needs driver (pin + 1) drivers) ≡ suc need →
+        (tap_count needs driver (pin + 1) drivers ≡ suc need → 1 ≤ length (takers needs driver need (pin + 1) drivers)) →
+        1 ≤ length (with_pin (same && here) pin (takers needs driver need (pin + 1) drivers))
+    by true true equal apart h rest = omega arith
+    by true false equal apart h rest = let d = apart refl in rest (omega arith)
+    by false here equal apart h rest = rest (omega arith)
+
+-- below a number of taps
+abbrev pub below : ℕ → ℕ → Bool
+below its zero = false
+below its (suc count) = below its count || (its == count)
+
+pub below-from : (its count : ℕ) → count ≤ its → below its count ≡ false
+below-from its zero high = refl
+below-from its (suc count) high =
+    ap (λ b. b || (its == count)) (below-from its count (omega arith)) ∙ nat_eq-other its count (λ e. omega arith)
+
+pub below-true : (its count : ℕ) → its < count → below its count ≡ true
+below-true its zero low = absurd (omega arith)
+below-true its (suc count) low = by (its == count) refl (below-true its count)
+  where
+    by : (here : Bool) → (its == count) ≡ here → (its < count → below its count ≡ true) → (below its count || here) ≡ true
+    by true e rest = or_right (below its count) true refl
+    by false e rest = or_left (below its count) false (rest (omega (arith, nat_eq-differs its count e)))
+
+-- the taps of the drivers before, and so many of this driver
+abbrev pub with_taps : (Driver → Bool) → Driver → ℕ → Marks
+with_taps reached driver count = λ other its. reached other || (same_driver driver other && below its count)
+
+with_taps-next : (reached : Driver → Bool) (driver : Driver) (count : ℕ) (other : Driver) (its : ℕ) →
+    with_taps reached driver (suc count) other its ≡ and_tap (with_taps reached driver count) driver count other its
+with_taps-next reached driver count other its = by (reached other) (same_driver driver other)
+  where
+    by : (before same : Bool) → (before || (same && (below its count || (its == count)))) ≡ ((before || (same && below its count)) || (same && (its == count)))
+    by true same = refl
+    by false true = refl
+    by false false = refl
+
+with_taps-new : (reached : Driver → Bool) (driver : Driver) (count : ℕ) → ((other : Driver) → same_driver driver other ≡ true → reached other ≡ false) → IsNew (with_taps reached driver count) driver count
+with_taps-new reached driver count late other its = by (reached other) (same_driver driver other) (its == count) (late other) (λ e. below-from its count (omega (arith, eqb-true its count e)))
+  where
+    by : (before same here : Bool) → (same ≡ true → before ≡ false) → (here ≡ true → below its count ≡ false) → (same && here) ≡ true → (before || (same && below its count)) ≡ false
+    by before true true l b h = (λ i. l refl i || b refl i)
+    by before true false l b h = absurd (true≢false (sym h))
+    by before false here l b h = absurd (true≢false (sym h))
+
+takers-behind : (needs : List ℕ) (driver : Driver) (need : ℕ) (used rest : List Driver) → DrivesNone driver used →
+    takers needs driver need 0 (used ++ rest) ≡ takers needs driver need (length used) rest
+takers-behind needs driver need used rest none = let z : 0 + length used ≡ length used = omega arith in takers-late needs driver need 0 used rest none ∙ ap (λ p. takers needs driver need p rest) z
+
+taps-level : (stage : Driver → ℕ → ℕ) (driver : Driver) (s phases need at : ℕ) → ((other : Driver) (its : ℕ) → same_driver driver other ≡ true → stage other its ≡ s + phases * its) → at ≡ s + phases * need →
+    (other : Driver) (its : ℕ) → (same_driver driver other && (its == need)) ≡ true → stage other its ≡ at
+taps-level stage driver s phases need at stages here other its = by (same_driver driver other) (its == need) (stages other its) (λ e. eqb-true its need e)
+  where
+    by : (same equal : Bool) → (same ≡ true → stage other its ≡ s + phases * its) → (equal ≡ true → its ≡ need) → (same && equal) ≡ true → stage other its ≡ at
+    by true true l e h = l refl ∙ ap (λ n. s + phases * n) (e refl) ∙ sym here
+    by true false l e h = absurd (true≢false (sym h))
+    by false equal l e h = absurd (true≢false (sym h))
+
+with_taps-plus : (reached : Driver → Bool) (driver : Driver) (count : ℕ) (other : Driver) (its : ℕ) →
+    with_taps reached driver (count + 1) other its ≡ and_tap (with_taps reached driver count) driver count other its
+with_taps-plus reached driver count other its = let e : count + 1 ≡ suc count = omega arith in ap (λ n. with_taps reached driver n other its) e ∙ with_taps-next reached driver count other its
+
+times-next : (phases need : ℕ) → phases * (need + 1) ≡ phases * need + phases
+times-next phases need = let e : need + 1 ≡ suc need = omega arith in ap (λ k. phases * k) e ∙ mul-suc phases need
+
+-- The chain of a driver from a wire that waits, whose taps behind `need` are still to be laid out.
+pub Stands-taps : (phases first : ℕ) (start : Wires ℕ) (stage : Driver → ℕ → ℕ) (needs : List ℕ) (used rest : List Driver) (reached : Driver → Bool) (waits : ℕ → ℕ)
+    (driver : Driver) (s : ℕ) (need more : ℕ) (wire at : ℕ) (layout : Layout) →
+    1 ≤ phases →
+    DrivesNone driver used →
+    ((other : Driver) → same_driver driver other ≡ true → reached other ≡ false) →
+    ((other : Driver) (its : ℕ) → same_driver driver other ≡ true → stage other its ≡ s + phases * its) →
+    at ≡ s + phases * need →
+    tap_count needs driver 0 (used ++ rest) ≡ need + suc more →
+    GoesOn phases first start stage needs (length used) rest (with_taps reached driver need) waits layout wire at →
+    Stands phases first start stage needs (length used) rest (with_taps reached driver (need + suc more)) waits (with_chain phases at wire (taps_from needs (used ++ rest) driver need (suc more)) layout)
+Stands-taps phases first start stage needs used rest reached waits driver s need zero wire at layout some none late stages here counted h =
+    let pins = takers needs driver need 0 (used ++ rest) in
+    let behind = takers-behind needs driver need used rest none in
+    let next : need + 1 ≡ suc need = omega arith in
+    let last : 1 ≤ length (takers needs driver need 0 (used ++ rest)) = takers-last needs driver need 0 (used ++ rest) (counted ∙ next) in
+    let done = Stands-last phases first start stage needs (length used) rest (with_taps reached driver need) waits layout driver need at wire h.stands h.source
+    (taps-level stage driver s phases need at stages here) (with_taps-new reached driver need late)
+    (subst (λ (ps : List ℕ). 1 ≤ length ps) behind last) in
+    subst (λ (ps : List ℕ). Stands phases first start stage needs (length used) rest (with_taps reached driver (need + 1)) waits (with_last wire ps layout)) (sym behind)
+    (Stands-agree phases first start stage needs (length used) rest (and_tap (with_taps reached driver need) driver need) (with_taps reached driver (need + 1)) waits
+    (with_last wire (takers needs driver need (length used) rest) layout)
+    (Agree-all (and_tap (with_taps reached driver need) driver need) (with_taps reached driver (need + 1)) needs (length used) rest (with_taps-plus reached driver need)) done)
+Stands-taps phases first start stage needs used rest reached waits driver s need (suc more) wire at layout some none late stages here counted h =
+    let pins = takers needs driver need 0 (used ++ rest) in
+    let behind = takers-behind needs driver need used rest none in
+    let done = GoesOn-dro phases first start stage needs (length used) rest (with_taps reached driver need) waits layout driver need at wire some h
+    (taps-level stage driver s phases need at stages here) (with_taps-new reached driver need late) in
+    let moved : GoesOn phases first start stage needs (length used) rest (and_tap (with_taps reached driver need) driver need) waits (with_dro (at + phases) wire pins layout) ((with_tap wire pins layout).next) (at + phases) =
+    subst (λ (ps : List ℕ). GoesOn phases first start stage needs (length used) rest (and_tap (with_taps reached driver need) driver need) waits (with_dro (at + phases) wire ps layout) ((with_tap wire ps layout).next) (at + phases)) (sym behind) done in
+    let out = (with_tap wire pins layout).next in
+    let agreed : GoesOn phases first start stage needs (length used) rest (with_taps reached driver (need + 1)) waits (with_dro (at + phases) wire pins layout) out (at + phases) = record {
+      stands = Stands-agree phases first start stage needs (length used) rest (and_tap (with_taps reached driver need) driver need) (with_taps reached driver (need + 1)) (λ w. once w out + waits w)
+          (with_dro (at + phases) wire pins layout)
+          (Agree-all (and_tap (with_taps reached driver need) driver need) (with_taps reached driver (need + 1)) needs (length used) rest (with_taps-plus reached driver need)) moved.stands;
+      source = moved.source;
+    } in
+    let counts : need + suc (suc more) ≡ (need + 1) + suc more = omega arith in
+    let level : at + phases ≡ s + phases * (need + 1) = omega (arith, times-next phases need) in
+    subst (λ n. Stands phases first start stage needs (length used) rest (with_taps reached driver n) waits (with_chain phases at wire (taps_from needs (used ++ rest) driver need (suc (suc more))) layout)) (sym counts)
+    (Stands-taps phases first start stage needs used rest reached waits driver s (need + 1) more out (at + phases) (with_dro (at + phases) wire pins layout) some none late stages level (counted ∙ counts) agreed)
+
+-- the taps of the drivers that are reached
+abbrev pub by_driver : (Driver → Bool) → Marks
+by_driver reached = λ driver need. reached driver
+
+-- one driver more is reached
+abbrev pub and_driver : (Driver → Bool) → Driver → (Driver → Bool)
+and_driver reached driver = λ other. reached other || same_driver driver other
+
+pub tap_count-late : (needs : List ℕ) (driver : Driver) (pin : ℕ) (used rest : List Driver) → DrivesNone driver used → tap_count needs driver pin (used ++ rest) ≡ tap_count needs driver (pin + length used) rest
+tap_count-late needs driver pin [] rest none = let e : pin ≡ pin + 0 = omega arith in ap (λ p. tap_count needs driver p rest) e
+tap_count-late needs driver pin (other ∷ used) rest none =
+    let e : (pin + 1) + length used ≡ pin + suc (length used) = omega arith in
+    let z : max 0 (tap_count needs driver (pin + 1) (used ++ rest)) ≡ tap_count needs driver (pin + 1) (used ++ rest) = omega arith in
+    ap (λ b. max (cond b (get_or needs pin 0 + 1) 0) (tap_count needs driver (pin + 1) (used ++ rest))) none.0
+    ∙ z ∙ tap_count-late needs driver (pin + 1) used rest none.1
+    ∙ ap (λ p. tap_count needs driver p rest) e
+
+-- each pin of the driver has a need below the number of its taps
+Agree-chain : (needs : List ℕ) (reached : Driver → Bool) (driver : Driver) (total pin : ℕ) (drivers : List Driver) → tap_count needs driver pin drivers ≤ total →
+    Agree (with_taps reached driver total) (by_driver (and_driver reached driver)) needs pin drivers
+Agree-chain needs reached driver total pin [] few = tt
+Agree-chain needs reached driver total pin (other ∷ drivers) few =
+    (by (same_driver driver other) (reached other) (λ low. below-true (get_or needs pin 0) total low) few, Agree-chain needs reached driver total (pin + 1) drivers (omega arith))
+  where
+    by : (same before : Bool) → (get_or needs pin 0 < total → below (get_or needs pin 0) total ≡ true) → max (cond same (get_or needs pin 0 + 1) 0) (tap_count needs driver (pin + 1) drivers) ≤ total →
+        (before || same) ≡ (before || (same && below (get_or needs pin 0) total))
+    by same true low few = refl
+    by true false low few = sym (low (omega arith))
+    by false false low few = refl
+
+with_taps-none : (reached : Driver → Bool) (driver other : Driver) (its : ℕ) → with_taps reached driver 0 other its ≡ by_driver reached other its
+with_taps-none reached driver other its = by (reached other) (same_driver driver other)
+  where
+    by : (before same : Bool) → (before || (same && false)) ≡ before
+    by true same = refl
+    by false true = refl
+    by false false = refl
+
+-- The whole chain of a driver: behind it each pin of the driver waits with its wire.
+pub Stands-chain : (phases first : ℕ) (start : Wires ℕ) (stage : Driver → ℕ → ℕ) (needs : List ℕ) (used rest : List Driver) (reached : Driver → Bool) (waits : ℕ → ℕ)
+    (driver : Driver) (s wire : ℕ) (layout : Layout) →
+    1 ≤ phases →
+    DrivesNone driver used →
+    ((other : Driver) → same_driver driver other ≡ true → reached other ≡ false) →
+    ((other : Driver) (its : ℕ) → same_driver driver other ≡ true → stage other its ≡ s + phases * its) →
+    1 ≤ tap_count needs driver 0 (used ++ rest) →
+    GoesOn phases first start stage needs (length used) rest (by_driver reached) waits layout wire s →
+    Stands phases first start stage needs (length used) rest (by_driver (and_driver reached driver)) waits (with_chain phases s wire (taps_at needs (used ++ rest) driver) layout)
+Stands-chain phases first start stage needs used rest reached waits driver s wire layout some none late stages taps h =
+    by (tap_count needs driver 0 (used ++ rest)) refl
+  where
+    by : (count : ℕ) → tap_count needs driver 0 (used ++ rest) ≡ count →
+        Stands phases first start stage needs (length used) rest (by_driver (and_driver reached driver)) waits (with_chain phases s wire (taps_from needs (used ++ rest) driver 0 count) layout)
+    by zero e = absurd (omega arith)
+    by (suc more) e =
+        let z : s ≡ s + phases * 0 = omega arith in
+        let same : 0 + suc more ≡ suc more = omega arith in
+        let begun : GoesOn phases first start stage needs (length used) rest (with_taps reached driver 0) waits layout wire s = record {
+          stands = Stands-agree phases first start stage needs (length used) rest (by_driver reached) (with_taps reached driver 0) (λ w. once w wire + waits w) layout
+              (Agree-all (by_driver reached) (with_taps reached driver 0) needs (length used) rest (with_taps-none reached driver)) h.stands;
+          source = h.source;
+        } in
+        let done = Stands-taps phases first start stage needs used rest reached waits driver s 0 more wire s layout some none late stages z (e ∙ sym same) begun in
+        let few : tap_count needs driver (length used) rest ≤ 0 + suc more =
+        let f = tap_count-late needs driver 0 used rest none in let y : 0 + length used ≡ length used = omega arith in let g = ap (λ p. tap_count needs driver p rest) y in omega (arith, f, g, e) in
+        Stands-agree phases first start stage needs (length used) rest (with_taps reached driver (0 + suc more)) (by_driver (and_driver reached driver)) waits (with_chain phases s wire (taps_from needs (used ++ rest) driver 0 (suc more)) layout)
+        (Agree-chain needs reached driver (0 + suc more) (length used) rest few) done

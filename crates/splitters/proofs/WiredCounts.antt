@@ -1,0 +1,107 @@
+-- How often a wire stands in a list, wires in a run of numbers, and what stays found while elements follow.
+use Rattle.std.proofs.Common.{◌≡◌, ◌≤◌, ◌<◌, ℕ, zero, suc, ◌+◌, Bool, true, false, cond, nat_eq, List, [], ◌∷◌, ◌++◌, refl, ap, sym, ◌∙◌, arith}
+use Rattle.std.proofs.lemmas.Bool.{true≢false, eqb-true}
+use Rattle.std.specs.Prelude.{Option, Some, None, ⊤, flat_map}
+use Rattle.std.specs.Map.{lookup}
+use Rattle.std.specs.Cmp.{nat_eq_equiv}
+use Rattle.pulse_net.specs.declared.net.Element.{Element}
+use Rattle.pulse_net.specs.Wires.{Wires, found, element_wires, after_elements, cell_stage}
+use Rattle.pulse_net.specs.Wired.{ElementInTime, ElementsInTime}
+
+-- one for the wire itself, and nothing for another
+pub once : ℕ → ℕ → ℕ
+once wire other = cond (nat_eq wire other) 1 0
+
+-- how often a wire stands in a list
+abbrev pub times : ℕ → List ℕ → ℕ
+times wire [] = 0
+times wire (other ∷ others) = once wire other + times wire others
+
+pub times-append : (wire : ℕ) (xs ys : List ℕ) → times wire (xs ++ ys) ≡ times wire xs + times wire ys
+times-append wire [] ys = omega arith
+times-append wire (x ∷ xs) ys = let rest = times-append wire xs ys in omega (arith, rest)
+
+-- so many wires in order, from one on
+abbrev pub run : ℕ → ℕ → List ℕ
+run from zero = []
+run from (suc count) = from ∷ run (suc from) count
+
+pub run-append : (from m n : ℕ) → run from (m + n) ≡ run from m ++ run (from + m) n
+run-append from zero n = let e : from + 0 ≡ from = omega arith in let z : 0 + n ≡ n = omega arith in ap (run from) z ∙ ap (λ k. run k n) (sym e)
+run-append from (suc m) n =
+    let e : from + suc m ≡ suc from + m = omega arith in
+    let z : suc m + n ≡ suc (m + n) = omega arith in
+    ap (run from) z ∙ ap (λ xs. from ∷ xs) (run-append (suc from) m n ∙ ap (λ k. run (suc from) m ++ run k n) (sym e))
+
+pub run-split : (from middle m n : ℕ) → from + m ≡ middle → run from (m + n) ≡ run from m ++ run middle n
+run-split from middle m n e = run-append from m n ∙ ap (λ k. run from m ++ run k n) e
+
+-- what is found stays found behind more
+pub found-stays : {A : Type 0} (made more : Wires A) (wire : ℕ) (a : A) → found made wire ≡ Some a → found (made ++ more) wire ≡ Some a
+found-stays [] more wire a h = cc
+found-stays (one ∷ made) more wire a h = by (nat_eq wire one.0) (found-stays made more wire a) h
+  where
+    by : (here : Bool) → (found made wire ≡ Some a → found (made ++ more) wire ≡ Some a) → cond here (Some one.1) (found made wire) ≡ Some a → cond here (Some one.1) (found (made ++ more) wire) ≡ Some a
+    by true rest e = e
+    by false rest e = rest e
+
+-- what isn't found yet is found in what follows
+pub found-behind : {A : Type 0} (made more : Wires A) (wire : ℕ) → found made wire ≡ None → found (made ++ more) wire ≡ found more wire
+found-behind [] more wire h = refl
+found-behind (one ∷ made) more wire h = by (nat_eq wire one.0) (found-behind made more wire) h
+  where
+    by : (here : Bool) → (found made wire ≡ None → found (made ++ more) wire ≡ found more wire) → cond here (Some one.1) (found made wire) ≡ None → cond here (Some one.1) (found (made ++ more) wire) ≡ found more wire
+    by true rest e = cc
+    by false rest e = rest e
+
+-- the wires after elements, where an element makes its wires
+abbrev pub after : Wires ℕ → List Element → Wires ℕ
+after made elements = after_elements 0 cell_stage made elements
+
+pub after-append : (made : Wires ℕ) (xs ys : List Element) → after made (xs ++ ys) ≡ after (after made xs) ys
+after-append made [] ys = refl
+after-append made (x ∷ xs) ys = after-append (made ++ element_wires 0 cell_stage made x) xs ys
+
+pub after-stays : (made : Wires ℕ) (elements : List Element) (wire stage : ℕ) → found made wire ≡ Some stage → found (after made elements) wire ≡ Some stage
+after-stays made [] wire stage h = h
+after-stays made (x ∷ xs) wire stage h =
+    after-stays (made ++ element_wires 0 cell_stage made x) xs wire stage (found-stays made (element_wires 0 cell_stage made x) wire stage h)
+
+pub in_time-append : (phases : ℕ) (made : Wires ℕ) (xs ys : List Element) → ElementsInTime phases made xs → ElementsInTime phases (after made xs) ys → ElementsInTime phases made (xs ++ ys)
+in_time-append phases made [] ys before rest = rest
+in_time-append phases made (x ∷ xs) ys before rest = (before.0, in_time-append phases (made ++ element_wires 0 cell_stage made x) xs ys before.1 rest)
+
+-- each of these wires is found with this stage
+abbrev pub AreFound : Wires ℕ → ℕ → List ℕ → Type 0
+AreFound made stage [] = ⊤
+AreFound made stage (wire ∷ wires) = (found made wire ≡ Some stage) × AreFound made stage wires
+
+pub AreFound-append : (made : Wires ℕ) (stage : ℕ) (xs ys : List ℕ) → AreFound made stage xs → AreFound made stage ys → AreFound made stage (xs ++ ys)
+AreFound-append made stage [] ys before rest = rest
+AreFound-append made stage (x ∷ xs) ys before rest = (before.0, AreFound-append made stage xs ys before.1 rest)
+
+pub AreFound-stay : (made : Wires ℕ) (elements : List Element) (stage : ℕ) (wires : List ℕ) → AreFound made stage wires → AreFound (after made elements) stage wires
+AreFound-stay made elements stage [] h = h
+AreFound-stay made elements stage (wire ∷ wires) h = (after-stays made elements wire stage h.0, AreFound-stay made elements stage wires h.1)
+
+pub same-found : (wire : ℕ) → nat_eq wire wire ≡ true
+same-found wire = nat_eq_equiv.refl wire
+
+-- wires that differ
+pub nat_eq-other : (a b : ℕ) → (a ≡ b → ⊥) → nat_eq a b ≡ false
+nat_eq-other a b apart = by (nat_eq a b) refl
+  where
+    by : (same : Bool) → nat_eq a b ≡ same → same ≡ false
+    by true e = absurd (apart (eqb-true a b e))
+    by false e = refl
+
+pub nat_eq-differs : (a b : ℕ) → nat_eq a b ≡ false → a ≡ b → ⊥
+nat_eq-differs a b e same = true≢false (sym (nat_eq_equiv.refl a) ∙ ap (nat_eq a) same ∙ e)
+
+pub once-same : (wire other : ℕ) → nat_eq wire other ≡ true → once wire other ≡ 1
+unfolding once
+once-same wire other e = ap (λ b. cond b 1 0) e
+
+pub once-other : (wire other : ℕ) → nat_eq wire other ≡ false → once wire other ≡ 0
+unfolding once
+once-other wire other e = ap (λ b. cond b 1 0) e

@@ -1,0 +1,5 @@
+use Rattle.splitters.proofs.WiredWhole.{layout_is_valid}
+use Rattle.splitters.proofs.laws.layout_is_valid.Goals as goal
+
+pub returns : goal.returns
+returns c = layout_is_valid

@@ -1,0 +1,63 @@
+-- What is proved of the netlist of gates with shared chains.
+use Rattle.std.specs.Prelude.{◌≡◌, ◌≤◌, ℕ, ◌+◌, ◌*◌, List, [], ◌∷◌, length, slice_index, ⊤, flat_map}
+use Rattle.gate_net.specs.declared.row.Driver.{Driver}
+use Rattle.gate_net.specs.declared.row.GateRow.{GateRow}
+use Rattle.gate_net.specs.Net.{pin_drivers, end_drivers, IsGateNet, EachGateIsUsed}
+use Rattle.pulse_net.specs.declared.net.Names.{Names}
+use Rattle.pulse_net.specs.Wired.{IsInTime}
+use Rattle.pulse_net.specs.Validity.{IsValid}
+use Rattle.gate_net.specs.declared.net.GateNet.{GateNet}
+use Rattle.flow_net.specs.declared.net.Epochs.{Epochs}
+use Rattle.dro_chains.specs.Chains.{HasChains, chained_of}
+use Rattle.dro_chains.specs.declared.chain.Chained.{Chained}
+use Rattle.splitters.specs.Taps.{driver_stage}
+use Rattle.splitters.specs.Elements.{gate_pins, elements_of}
+
+-- the stage of a tap: n stages for each DRO behind its driver
+abbrev pub tap_stage : Chained → Driver → ℕ → ℕ
+tap_stage chained driver need = driver_stage chained driver + chained.n * need
+
+-- each of these pins, from a number on, takes from its tap 1 to n ticks before its user's stage
+abbrev pub PinsInTime : Chained → ℕ → ℕ → List Driver → Type 0
+PinsInTime chained user pin [] = ⊤
+PinsInTime chained user pin (driver ∷ drivers) =
+    IsInTime chained.n (tap_stage chained driver (slice_index chained.needs pin)) user × PinsInTime chained user (pin + 1) drivers
+
+-- the same of the pins of gates, from a gate and a pin on
+abbrev pub GatesInTime : Chained → ℕ → ℕ → List GateRow → Type 0
+GatesInTime chained gate pin [] = ⊤
+GatesInTime chained gate pin (row ∷ rows) =
+    PinsInTime chained (slice_index chained.stages gate) pin row.pins × GatesInTime chained (gate + 1) (pin + length row.pins) rows
+
+-- Gates with shared chains keep time: each gate has a use, and each pin takes from its tap 1 to n ticks before its gate,
+-- or before the reading, at stage n * E; and where there is no pin, the latency is 1.
+pub record KeepsTime (chained : Chained) : Type 0 where
+  pub formed : IsGateNet chained.gates
+  pub used : EachGateIsUsed chained.gates
+  pub some_phase : 1 ≤ chained.n
+  pub few_phases : chained.n ≤ 16
+  pub latency : 1 ≤ chained.latency
+  pub gates : GatesInTime chained 0 0 chained.gates.gates
+  pub outputs : PinsInTime chained (chained.n * chained.latency) (gate_pins chained.gates.gates) (flat_map end_drivers chained.gates.outputs)
+  pub empty : pin_drivers chained.gates ≡ [] → chained.latency ≡ 1
+
+-- the names fit the gates: one for each input, and one for each output
+pub record HasNames (chained : Chained) (names : Names) : Type 0 where
+  pub inputs : length names.inputs ≡ chained.gates.inputs
+  pub outputs : length names.outputs ≡ length chained.gates.outputs
+
+-- Where the chains keep time, the netlist is valid.
+abbrev pub LayoutIsValid : Type 0
+LayoutIsValid = (chained : Chained) (names : Names) → KeepsTime chained → HasNames chained names → IsValid (elements_of chained names)
+
+-- these are the chains of a netlist whose gates have these phases and epochs
+pub record AreChains (chained : Chained) (net : GateNet) (phases : List ℕ) (n : ℕ) (epochs : Epochs) : Type 0 where
+  pub gates : chained.gates ≡ net
+  pub count : chained.n ≡ n
+  pub stages : chained.stages ≡ (chained_of net phases n epochs).stages
+  pub latency : chained.latency ≡ (chained_of net phases n epochs).latency
+  pub needs : chained.needs ≡ (chained_of net phases n epochs).needs
+
+-- The chains of balanced epochs keep time.
+abbrev pub ChainsKeepTime : Type 0
+ChainsKeepTime = (net : GateNet) (phases : List ℕ) (n : ℕ) (epochs : Epochs) (chained : Chained) → HasChains net phases n epochs → AreChains chained net phases n epochs → KeepsTime chained

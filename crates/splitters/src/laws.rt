@@ -1,0 +1,14 @@
+//! What the layout of gates with shared chains means, as laws. A law takes nothing and does nothing: its clause is the law.
+
+ghost use Rattle.splitters.specs.Laws.{ChainsKeepTime, LayoutIsValid};
+
+/// Where each gate has a use, and each pin takes from its tap 1 to n ticks before its gate or before the reading, the
+/// netlist of gates with shared chains is valid: each wire is made once and used once, and each is read in time.
+pub fn layout_is_valid()
+    ensures { LayoutIsValid }
+{}
+
+/// The chains of balanced epochs keep time: the DROs that a pin needs leave 1 to n ticks to its user.
+pub fn chains_keep_time()
+    ensures { ChainsKeepTime }
+{}
