@@ -1,17 +1,12 @@
 -- Small netlists by hand, laid out by evaluation: a false definition fails here.
-use Rattle.std.specs.Prelude.{◌≡◌, ℕ, List, [], ◌∷◌, Some, None, refl}
+use Rattle.std.specs.Prelude.{◌≡◌, [], ◌∷◌, Some, None, refl}
 use Rattle.cell_lib.specs.declared.cell.Cell.TheVariants.{Dro, Not, And, Or}
-use Rattle.gate_net.specs.declared.row.Driver.{Driver}
 use Rattle.gate_net.specs.declared.row.Driver.TheVariants.{Input, Gate}
-use Rattle.gate_net.specs.declared.row.End.{End}
 use Rattle.gate_net.specs.declared.row.End.TheVariants.{One as True, From}
-use Rattle.gate_net.specs.declared.row.GateRow.{GateRow}
 use Rattle.pulse_net.specs.declared.net.Names.{Names}
-use Rattle.pulse_net.specs.declared.net.Element.{Element}
 use Rattle.pulse_net.specs.declared.net.Element.TheVariants.{Clocked, Split}
-use Rattle.pulse_net.specs.declared.net.Outlet.{Outlet}
 use Rattle.pulse_net.specs.declared.net.Outlet.TheVariants.{One, Wire}
-use Rattle.splitters.specs.declared.chained.Chained.{Chained}
+use Rattle.dro_chains.specs.declared.chain.Chained.{Chained}
 use Rattle.splitters.specs.Spread.{spread_lines, spread_wires}
 use Rattle.splitters.specs.Elements.{elements_of}
 
@@ -36,51 +31,51 @@ names = record { model = 109 ∷ []; inputs = (97 ∷ []) ∷ []; outputs = (102
 -- (not a and a) or a, with one phase: a is kept for two more epochs
 abbrev kept : Chained
 kept = record {
-    gates = record {
-      inputs = 1;
-      gates = record { cell = Not; pins = Input 0 ∷ [] }
+  gates = record {
+    inputs = 1;
+    gates = record { cell = Not; pins = Input 0 ∷ [] }
         ∷ (record { cell = And; pins = Input 0 ∷ (Gate 0 ∷ []) } ∷ (record { cell = Or; pins = Input 0 ∷ (Gate 1 ∷ []) } ∷ []));
-      outputs = From (Gate 2) ∷ [];
-    };
-    n = 1;
-    stages = 1 ∷ (2 ∷ (3 ∷ []));
-    latency = 4;
-    lengths = 2 ∷ (0 ∷ (0 ∷ (0 ∷ [])));
-    needs = 0 ∷ (1 ∷ (0 ∷ (2 ∷ (0 ∷ (0 ∷ [])))));
-  }
+    outputs = From (Gate 2) ∷ [];
+  };
+  n = 1;
+  stages = 1 ∷ (2 ∷ (3 ∷ []));
+  latency = 4;
+  lengths = 2 ∷ (0 ∷ (0 ∷ (0 ∷ [])));
+  needs = 0 ∷ (1 ∷ (0 ∷ (2 ∷ (0 ∷ (0 ∷ [])))));
+}
 
 kept_netlist : elements_of kept names ≡ record {
-    names = names;
-    phases = 1;
-    latency = 4;
-    inputs = Some 0 ∷ [];
-    elements = Split 0 1 2
+  names = names;
+  phases = 1;
+  latency = 4;
+  inputs = Some 0 ∷ [];
+  elements = Split 0 1 2
       ∷ (Clocked Dro 1 (1 ∷ []) 3
       ∷ (Split 3 4 5
       ∷ (Clocked Dro 2 (4 ∷ []) 6
       ∷ (Clocked Not 1 (2 ∷ []) 7
       ∷ (Clocked And 2 (5 ∷ (7 ∷ [])) 8 ∷ (Clocked Or 3 (6 ∷ (8 ∷ [])) 9 ∷ []))))));
-    outputs = Wire 9 ∷ [];
-  }
+  outputs = Wire 9 ∷ [];
+}
 kept_netlist = refl
 
 -- the second of two inputs is an output, after a constant, and the first has no use
 abbrev passed : Chained
 passed = record {
-    gates = record { inputs = 2; gates = []; outputs = True ∷ (From (Input 1) ∷ []) };
-    n = 4;
-    stages = [];
-    latency = 1;
-    lengths = 0 ∷ [];
-    needs = 0 ∷ [];
-  }
+  gates = record { inputs = 2; gates = []; outputs = True ∷ (From (Input 1) ∷ []) };
+  n = 4;
+  stages = [];
+  latency = 1;
+  lengths = 0 ∷ [];
+  needs = 0 ∷ [];
+}
 
 passed_netlist : elements_of passed names ≡ record {
-    names = names;
-    phases = 4;
-    latency = 1;
-    inputs = None ∷ (Some 0 ∷ []);
-    elements = [];
-    outputs = One ∷ (Wire 0 ∷ []);
-  }
+  names = names;
+  phases = 4;
+  latency = 1;
+  inputs = None ∷ (Some 0 ∷ []);
+  elements = [];
+  outputs = One ∷ (Wire 0 ∷ []);
+}
 passed_netlist = refl

@@ -1,6 +1,10 @@
 -- Steps of a layout: a pin that takes its wire, and a tap of a chain.
-use Rattle.std.proofs.Common.{◌≡◌, ◌≤◌, ◌<◌, ℕ, zero, suc, ◌+◌, ◌-◌, ◌*◌, List, [], ◌∷◌, ◌++◌, length, get_or, set, drop, refl, ap, sym, ◌∙◌, arith, add-one, drop-cons}
-use Rattle.splitters.specs.Elements.{Layout, take_wires, with_last, with_tap, with_dro, with_chain}
+use Rattle.std.proofs.Common.{◌≡◌, ◌≤◌, ◌<◌, ℕ, zero, suc, ◌+◌, List, [], ◌∷◌, length, get_or, set, drop, refl, arith, add-one, drop-cons, length-append}
+use Rattle.std.specs.List.{flat_map}
+use Rattle.gate_net.specs.declared.row.GateRow.{GateRow}
+use Rattle.gate_net.specs.declared.net.GateNet.{GateNet}
+use Rattle.gate_net.specs.Net.{pin_drivers, end_drivers}
+use Rattle.splitters.specs.Elements.{Layout, take_wires, with_last, with_tap, with_dro, with_chain, gate_pins}
 
 -- The first of the pins that are left takes the first of the wires that are left.
 pub take_wires-next : (pins wires taken : List ℕ) (i : ℕ) → i < length pins → length wires ≡ length pins →
@@ -26,3 +30,11 @@ with_chain-last n stage wire (pins ∷ []) layout zero last = refl
 with_chain-last n stage wire (pins ∷ []) layout (suc k) last = absurd (omega arith)
 with_chain-last n stage wire (pins ∷ (next ∷ taps)) layout zero last = absurd (omega arith)
 with_chain-last n stage wire (pins ∷ (next ∷ taps)) layout (suc k) last = with_chain-last n stage wire (next ∷ taps) layout k (omega arith)
+
+-- The pins of gates come before those of outputs.
+pub length-gate_drivers : (rows : List GateRow) → length (flat_map (λ (row : GateRow). row.pins) rows) ≡ gate_pins rows
+length-gate_drivers [] = refl
+length-gate_drivers (row ∷ rows) = omega (arith, length-append row.pins (flat_map (λ (row : GateRow). row.pins) rows), length-gate_drivers rows)
+
+pub gate_pins-le : (net : GateNet) → gate_pins net.gates ≤ length (pin_drivers net)
+gate_pins-le net = omega (arith, length-append (flat_map (λ (row : GateRow). row.pins) net.gates) (flat_map end_drivers net.outputs), length-gate_drivers net.gates)

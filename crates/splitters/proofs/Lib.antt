@@ -1,5 +1,6 @@
 pub mod Trees
 pub mod TapLemmas
+pub mod PinLemmas
 pub mod LayoutLemmas
 pub mod WiredCounts
 pub mod WiredFrontier

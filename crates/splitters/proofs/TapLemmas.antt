@@ -1,7 +1,9 @@
 -- The table of taps: a pin goes to the tap of its driver and need, and at the end each tap has its pins.
-use Rattle.std.proofs.Common.{◌≡◌, ◌≢◌, ◌≤◌, ◌<◌, ◌^◌, ℕ, zero, suc, ◌+◌, ◌-◌, ◌*◌, max, cond, Bool, true, false, ◌&&◌, ◌==◌, eqb, List, [], ◌∷◌, ◌++◌, All, length, get_or, set, drop, replicate, map, refl, ap, sym, subst, ◌∙◌, arith, add-one, drop-cons, append_assoc, ⊎_elim, get_or-set_same, get_or-set_other}
+use Rattle.std.proofs.Common.{◌-◌, ⊎_elim, ◌*◌, ◌≡◌, ◌≢◌, ◌≤◌, ◌<◌, ◌^◌, ℕ, zero, suc, ◌+◌, max, cond, Bool, true, false, not, IsTrue, ◌↔◌, ◌||◌, ◌&&◌, ◌==◌, List, [], ◌∷◌, ◌++◌, All, length, get_or, set, drop, replicate, refl, ap, sym, subst, ◌∙◌, arith, add-one, drop-cons, append_assoc, get_or-set_same, get_or-set_other}
 use Rattle.std.proofs.lemmas.List.{append-nil, replicate-append-replicate, get_or_default}
 use Rattle.std.proofs.lemmas.List.Elements.{All-nil, All-cons}
+use Rattle.std.proofs.lemmas.Bool.{cases_lt}
+use Rattle.std.specs.List.{list_any}
 use Rattle.gate_net.specs.declared.row.Driver.{Driver}
 use Rattle.gate_net.specs.declared.row.Driver.TheVariants.{Input, Gate}
 use Rattle.gate_net.specs.Rows.{same_driver}
@@ -16,9 +18,9 @@ get_or-replicate_same A (suc n) (suc i) x = get_or-replicate_same A n i x
 
 pub Gathers-start : (inputs gates slots : ℕ) (needs : List ℕ) (drivers : List Driver) → Gathers inputs gates needs drivers (replicate slots []) 0 drivers
 Gathers-start inputs gates slots needs drivers = record {
-    count = λ driver there. rw (get_or-replicate_same (List (List ℕ)) slots (slot inputs driver) []) (omega arith);
-    pins = λ driver need there. rw (get_or-replicate_same (List (List ℕ)) slots (slot inputs driver) []) refl;
-  }
+  count = λ driver there. rw (get_or-replicate_same (List (List ℕ)) slots (slot inputs driver) []) (omega arith);
+  pins = λ driver need there. rw (get_or-replicate_same (List (List ℕ)) slots (slot inputs driver) []) refl;
+}
 
 -- Two drivers are the same, or stand at two places of the table.
 pub slot-same : (inputs gates : ℕ) (a b : Driver) → IsThere inputs gates a → IsThere inputs gates b → same_driver a b ≡ true → slot inputs a ≡ slot inputs b
@@ -63,15 +65,15 @@ Gathers-next inputs gates needs drivers table pin other rest taps here within co
     λ driver there same. ap (λ (n : ℕ). get_or table n []) (sym (slot-same inputs gates driver other there here same)) in
     record {
       count = λ driver there.
-        count-next (same_driver driver other) (length (get_or table (slot inputs driver) [])) (length (new driver)) (get_or needs pin 0) (tap_count needs driver (pin + 1) rest) (tap_count needs driver 0 drivers)
-        (λ same. ap length (same_place driver there same) ∙ count ∙ ap (λ (xs : List (List ℕ)). max (length xs) (get_or needs pin 0 + 1)) (old_place driver there same))
-        (λ same. ap length (other_place driver there same))
-        (done.count driver there);
+          count-next (same_driver driver other) (length (get_or table (slot inputs driver) [])) (length (new driver)) (get_or needs pin 0) (tap_count needs driver (pin + 1) rest) (tap_count needs driver 0 drivers)
+          (λ same. ap length (same_place driver there same) ∙ count ∙ ap (λ (xs : List (List ℕ)). max (length xs) (get_or needs pin 0 + 1)) (old_place driver there same))
+          (λ same. ap length (other_place driver there same))
+          (done.count driver there);
       pins = λ driver need there.
-        pins-next (same_driver driver other) (get_or needs pin 0 == need) (tap_at (get_or table (slot inputs driver) []) need) (tap_at (new driver) need) (takers needs driver need (pin + 1) rest) (takers needs driver need 0 drivers) pin
-        (λ same. ap (λ (xs : List (List ℕ)). tap_at xs need) (same_place driver there same) ∙ pins need ∙ ap (λ (xs : List (List ℕ)). cond (get_or needs pin 0 == need) (tap_at xs need ++ pin ∷ []) (tap_at xs need)) (old_place driver there same))
-        (λ same. ap (λ (xs : List (List ℕ)). tap_at xs need) (other_place driver there same))
-        (done.pins driver need there);
+          pins-next (same_driver driver other) (get_or needs pin 0 == need) (tap_at (get_or table (slot inputs driver) []) need) (tap_at (new driver) need) (takers needs driver need (pin + 1) rest) (takers needs driver need 0 drivers) pin
+          (λ same. ap (λ (xs : List (List ℕ)). tap_at xs need) (same_place driver there same) ∙ pins need ∙ ap (λ (xs : List (List ℕ)). cond (get_or needs pin 0 == need) (tap_at xs need ++ pin ∷ []) (tap_at xs need)) (old_place driver there same))
+          (λ same. ap (λ (xs : List (List ℕ)). tap_at xs need) (other_place driver there same))
+          (done.pins driver need there);
     }
 
 -- Lists of taps with the same pins at each need are one.
@@ -143,3 +145,121 @@ taps-below inputs gates needs drivers table driver place taps has each there her
 pub IsThere-few : (inputs gates : ℕ) (driver : Driver) → gates < 2 ^ 31 → IsThere inputs gates driver → IsThere inputs (2 ^ 31) driver
 IsThere-few inputs gates (Input i) few there = there
 IsThere-few inputs gates (Gate k) few there = omega arith
+
+-- The next pin goes to its tap, as the code does it: at a place of the table, with what was there before.
+pub Gathers-pin : (inputs gates : ℕ) (needs : List ℕ) (drivers : List Driver) (table : List (List (List ℕ))) (pin place need : ℕ) (taps old : List (List ℕ)) →
+    pin < length drivers → IsThere inputs gates (get_or drivers pin (Input 0)) → place ≡ slot inputs (get_or drivers pin (Input 0)) → length table ≡ inputs + gates →
+    need ≡ get_or needs pin 0 → old ≡ get_or table place old →
+    length taps ≡ max (length old) (need + 1) → ((k : ℕ) → tap_at taps k ≡ cond (need == k) (tap_at old k ++ pin ∷ []) (tap_at old k)) →
+    Gathers inputs gates needs drivers table pin (drop pin drivers) →
+    Gathers inputs gates needs drivers (set table place taps) (pin + 1) (drop (pin + 1) drivers)
+Gathers-pin inputs gates needs drivers table pin place need taps old within there here each need_is read count pins done =
+    let other : Driver = get_or drivers pin (Input 0) in
+    let inside : slot inputs (get_or drivers pin (Input 0)) < length table = omega (arith, slot-below inputs gates (get_or drivers pin (Input 0)) there) in
+    let old_is : old ≡ get_or table (slot inputs (get_or drivers pin (Input 0))) [] =
+    read ∙ ap (λ (n : ℕ). get_or table n old) here ∙ get_or_default table (slot inputs (get_or drivers pin (Input 0))) old [] inside in
+    let split_off : drop pin drivers ≡ get_or drivers pin (Input 0) ∷ drop (pin + 1) drivers = rw (add-one, drop-cons drivers pin (Input 0)) refl in
+    subst (λ (n : ℕ). Gathers inputs gates needs drivers (set table n taps) (pin + 1) (drop (pin + 1) drivers)) (sym here)
+    (Gathers-next inputs gates needs drivers table pin (get_or drivers pin (Input 0)) (drop (pin + 1) drivers) taps there inside
+    (count ∙ (λ i. max (length (old_is i)) (need_is i + 1)))
+    (λ k. pins k ∙ (λ i. cond (need_is i == k) (tap_at (old_is i) k ++ pin ∷ []) (tap_at (old_is i) k)))
+    (subst (Gathers inputs gates needs drivers table pin) split_off done))
+
+-- A driver has a tap exactly where it drives a pin.
+pub none-next : (same : Bool) (need more : ℕ) (any : Bool) → (more ≡ 0 → any ≡ false) → max (cond same (need + 1) 0) more ≡ 0 → (same || any) ≡ false
+none-next true need more any rest none = absurd (omega arith)
+none-next false need more any rest none = rest (omega arith)
+
+pub tap_count-none : (needs : List ℕ) (driver : Driver) (pin : ℕ) (drivers : List Driver) → tap_count needs driver pin drivers ≡ 0 → list_any (same_driver driver) drivers ≡ false
+tap_count-none needs driver pin [] none = refl
+tap_count-none needs driver pin (other ∷ drivers) none =
+    none-next (same_driver driver other) (get_or needs pin 0) (tap_count needs driver (pin + 1) drivers) (list_any (same_driver driver) drivers)
+    (tap_count-none needs driver (pin + 1) drivers) none
+
+pub some-next : (same : Bool) (need more : ℕ) (any : Bool) → (0 < more → any ≡ true) → 0 < max (cond same (need + 1) 0) more → (same || any) ≡ true
+some-next true need more any rest some = refl
+some-next false need more any rest some = rest (omega arith)
+
+pub tap_count-some : (needs : List ℕ) (driver : Driver) (pin : ℕ) (drivers : List Driver) → 0 < tap_count needs driver pin drivers → list_any (same_driver driver) drivers ≡ true
+tap_count-some needs driver pin [] some = absurd (omega arith)
+tap_count-some needs driver pin (other ∷ drivers) some =
+    some-next (same_driver driver other) (get_or needs pin 0) (tap_count needs driver (pin + 1) drivers) (list_any (same_driver driver) drivers)
+    (tap_count-some needs driver (pin + 1) drivers) some
+
+pub length-taps_from : (needs : List ℕ) (drivers : List Driver) (driver : Driver) (need count : ℕ) → length (taps_from needs drivers driver need count) ≡ count
+length-taps_from needs drivers driver need zero = refl
+length-taps_from needs drivers driver need (suc count) = omega (arith, length-taps_from needs drivers driver (need + 1) count)
+
+-- by cases on whether it is empty
+is_used-empty : (needs : List ℕ) (driver : Driver) (drivers : List Driver) (taps : List (List ℕ)) (empty : Bool) → length taps ≡ tap_count needs driver 0 drivers →
+    (IsTrue empty ↔ (taps ≡ [])) → not empty ≡ list_any (same_driver driver) drivers
+is_used-empty needs driver drivers taps true many tells =
+    let none : length taps ≡ 0 = ap length (tells.0 refl) in
+    sym (tap_count-none needs driver 0 drivers (sym many ∙ none))
+is_used-empty needs driver drivers [] false many tells = let never : false ≡ true = tells.1 refl in cc
+is_used-empty needs driver drivers (tap ∷ taps) false many tells = sym (tap_count-some needs driver 0 drivers (omega arith))
+
+-- Whether the table has a tap for a driver tells whether it is used.
+pub is_used-taps : (inputs gates : ℕ) (needs : List ℕ) (drivers : List Driver) (table : List (List (List ℕ))) (driver : Driver) (place : ℕ) (taps : List (List ℕ)) (empty : Bool) →
+    HasTaps inputs gates needs drivers table → length table ≡ inputs + gates → IsThere inputs gates driver → place ≡ slot inputs driver → taps ≡ get_or table place taps →
+    (IsTrue empty ↔ (taps ≡ [])) → not empty ≡ list_any (same_driver driver) drivers
+is_used-taps inputs gates needs drivers table driver place taps empty has each there here read tells =
+    let within : slot inputs driver < length table = omega (arith, slot-below inputs gates driver there) in
+    let same : taps ≡ taps_at needs drivers driver =
+    read ∙ ap (λ (n : ℕ). get_or table n taps) here ∙ get_or_default table (slot inputs driver) taps [] within ∙ has driver there in
+    let many : length taps ≡ tap_count needs driver 0 drivers = ap length same ∙ length-taps_from needs drivers driver 0 (tap_count needs driver 0 drivers) in
+    is_used-empty needs driver drivers taps empty many tells
+
+-- The last DRO of a chain fits: it is the one that some pin takes from.
+pub same_driver-equal : (a b : Driver) → same_driver a b ≡ true → a ≡ b
+same_driver-equal (Input i) (Input j) same = let e : i ≡ j = grind arith in ap Input e
+same_driver-equal (Input i) (Gate k) same = cc
+same_driver-equal (Gate k) (Input i) same = cc
+same_driver-equal (Gate j) (Gate k) same = let e : j ≡ k = grind arith in ap Gate e
+
+pub fits-next : (same : Bool) (n stage need more limit : ℕ) → (same ≡ true → stage + n * need < limit) → stage + n * (more - 1) < limit → stage + n * (max (cond same (need + 1) 0) more - 1) < limit
+fits-next false n stage need more limit mine rest =
+    let e : max 0 more ≡ more = omega arith in
+    subst (λ (m : ℕ). stage + n * (m - 1) < limit) (sym e) rest
+fits-next true n stage need more limit mine rest =
+    ⊎_elim {C = stage + n * (max (need + 1) more - 1) < limit}
+    (λ below.
+    let e : need ≡ max (need + 1) more - 1 = omega arith in
+    subst (λ (m : ℕ). stage + n * m < limit) e (mine refl))
+    (λ above.
+    let e : more ≡ max (need + 1) more = omega arith in
+    subst (λ (m : ℕ). stage + n * (m - 1) < limit) e rest)
+    (cases_lt more (need + 1))
+
+pub tap_count-fits : (stage_of : Driver → ℕ) (n limit : ℕ) (needs : List ℕ) (driver : Driver) (pin : ℕ) (drivers : List Driver) → stage_of driver < limit →
+    ((k : ℕ) (d : Driver) → k < length drivers → stage_of (get_or drivers k d) + n * get_or needs (pin + k) 0 < limit) →
+    stage_of driver + n * (tap_count needs driver pin drivers - 1) < limit
+tap_count-fits stage_of n limit needs driver pin [] first each = omega arith
+tap_count-fits stage_of n limit needs driver pin (other ∷ drivers) first each =
+    let here : pin + 0 ≡ pin = omega arith in
+    fits-next (same_driver driver other) n (stage_of driver) (get_or needs pin 0) (tap_count needs driver (pin + 1) drivers) limit
+    (λ same.
+    subst (λ (d : Driver). stage_of d + n * get_or needs pin 0 < limit) (sym (same_driver-equal driver other same))
+    (subst (λ (m : ℕ). stage_of other + n * get_or needs m 0 < limit) here (each 0 other (omega arith))))
+    (tap_count-fits stage_of n limit needs driver (pin + 1) drivers first
+    (λ k d below.
+    let next : pin + suc k ≡ (pin + 1) + k = omega arith in
+    subst (λ (m : ℕ). stage_of (get_or drivers k d) + n * get_or needs m 0 < limit) next (each (suc k) d (omega arith))))
+
+pub length-taps_at : (inputs gates : ℕ) (needs : List ℕ) (drivers : List Driver) (table : List (List (List ℕ))) (driver : Driver) (place : ℕ) (taps : List (List ℕ)) →
+    HasTaps inputs gates needs drivers table → length table ≡ inputs + gates → IsThere inputs gates driver → place ≡ slot inputs driver → taps ≡ get_or table place taps →
+    length taps ≡ tap_count needs driver 0 drivers
+length-taps_at inputs gates needs drivers table driver place taps has each there here read =
+    let within : slot inputs driver < length table = omega (arith, slot-below inputs gates driver there) in
+    ap length (read ∙ ap (λ (n : ℕ). get_or table n taps) here ∙ get_or_default table (slot inputs driver) taps [] within ∙ has driver there)
+    ∙ length-taps_from needs drivers driver 0 (tap_count needs driver 0 drivers)
+
+pub chain-fits : (stage_of : Driver → ℕ) (n : ℕ) (needs : List ℕ) (driver : Driver) (drivers : List Driver) (stage count : ℕ) →
+    stage ≡ stage_of driver → stage < 2 ^ 32 → count ≡ tap_count needs driver 0 drivers →
+    ((k : ℕ) (d : Driver) → k < length drivers → stage_of (get_or drivers k d) + n * get_or needs k 0 < 2 ^ 32) →
+    stage + n * (count - 1) < 2 ^ 32
+chain-fits stage_of n needs driver drivers stage count here small many each =
+    let all : stage_of driver + n * (tap_count needs driver 0 drivers - 1) < 2 ^ 32 =
+    tap_count-fits stage_of n (2 ^ 32) needs driver 0 drivers (subst (λ (m : ℕ). m < 2 ^ 32) here small)
+    (λ k d below. let e : k ≡ 0 + k = omega arith in subst (λ (m : ℕ). stage_of (get_or drivers k d) + n * get_or needs m 0 < 2 ^ 32) e (each k d below)) in
+    subst (λ (m : ℕ). stage + n * (m - 1) < 2 ^ 32) (sym many) (subst (λ (m : ℕ). m + n * (tap_count needs driver 0 drivers - 1) < 2 ^ 32) (sym here) all)

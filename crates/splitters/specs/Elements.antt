@@ -1,8 +1,7 @@
 -- The netlist of gates with shared chains: its elements in order, and the wire of each pin.
-use Rattle.std.specs.Prelude.{ℕ, zero, suc, ◌+◌, ◌*◌, ◌-◌, Bool, true, false, cond, List, [], ◌∷◌, ◌++◌, length, take, drop, replicate, Option, Some, None, slice_index, slice_set}
+use Rattle.std.specs.Prelude.{ℕ, zero, suc, ◌+◌, ◌*◌, ◌-◌, cond, List, [], ◌∷◌, ◌++◌, length, take, drop, replicate, Option, Some, None, slice_index, slice_set}
 use Rattle.cell_lib.specs.declared.cell.Cell.{Cell}
 use Rattle.cell_lib.specs.declared.cell.Cell.TheVariants.{Dro}
-use Rattle.gate_net.specs.declared.row.Driver.{Driver}
 use Rattle.gate_net.specs.declared.row.Driver.TheVariants.{Input, Gate}
 use Rattle.gate_net.specs.declared.row.End.{End}
 use Rattle.gate_net.specs.declared.row.End.TheVariants.{Zero as False, One as True, From}
@@ -14,7 +13,7 @@ use Rattle.pulse_net.specs.declared.net.Outlet.{Outlet}
 use Rattle.pulse_net.specs.declared.net.Outlet.TheVariants.{Zero, One, Wire}
 use Rattle.pulse_net.specs.declared.net.Names.{Names}
 use Rattle.pulse_net.specs.declared.net.PulseNet.{PulseNet}
-use Rattle.splitters.specs.declared.chained.Chained.{Chained}
+use Rattle.dro_chains.specs.declared.chain.Chained.{Chained}
 use Rattle.splitters.specs.Spread.{spread_lines, spread_wires}
 use Rattle.splitters.specs.Taps.{taps_of, is_used}
 
@@ -33,16 +32,16 @@ take_wires (pin ∷ pins) (wire ∷ wires) taken = take_wires pins wires (slice_
 -- a clocked element makes the next wire
 abbrev pub with_cell : Cell → ℕ → List ℕ → Layout → Layout
 with_cell cell stage pins layout = record layout {
-    next = layout.next + 1;
-    elements = layout.elements ++ Clocked cell stage pins layout.next ∷ [];
-  }
+  next = layout.next + 1;
+  elements = layout.elements ++ Clocked cell stage pins layout.next ∷ [];
+}
 
 -- a wire is spread over so many targets
 abbrev pub with_spread : ℕ → ℕ → Layout → Layout
 with_spread wire targets layout = record layout {
-    next = layout.next + 2 * (targets - 1);
-    elements = layout.elements ++ spread_lines wire layout.next targets;
-  }
+  next = layout.next + 2 * (targets - 1);
+  elements = layout.elements ++ spread_lines wire layout.next targets;
+}
 
 -- these pins take these wires
 abbrev pub with_taken : List ℕ → List ℕ → Layout → Layout
@@ -124,10 +123,10 @@ inputs_of chained = input_wires chained 0 0 chained.gates.inputs
 -- before the first driver: the inputs have the first wires, and no pin has its wire
 abbrev pub empty_layout : Chained → Layout
 empty_layout chained = record {
-    next = wire_count (inputs_of chained);
-    elements = [];
-    taken = replicate (length (pin_drivers chained.gates)) 0;
-  }
+  next = wire_count (inputs_of chained);
+  elements = [];
+  taken = replicate (length (pin_drivers chained.gates)) 0;
+}
 
 -- all drivers in order: the used inputs, then the gates
 abbrev pub layout_of : Chained → Layout

@@ -9,7 +9,7 @@ use Rattle.pulse_net.specs.Validity.{IsValid}
 use Rattle.gate_net.specs.declared.net.GateNet.{GateNet}
 use Rattle.flow_net.specs.declared.net.Epochs.{Epochs}
 use Rattle.dro_chains.specs.Chains.{HasChains, chained_of}
-use Rattle.splitters.specs.declared.chained.Chained.{Chained}
+use Rattle.dro_chains.specs.declared.chain.Chained.{Chained}
 use Rattle.splitters.specs.Taps.{driver_stage}
 use Rattle.splitters.specs.Elements.{gate_pins, elements_of}
 
@@ -50,14 +50,12 @@ pub record HasNames (chained : Chained) (names : Names) : Type 0 where
 abbrev pub LayoutIsValid : Type 0
 LayoutIsValid = (chained : Chained) (names : Names) → KeepsTime chained → HasNames chained names → IsValid (elements_of chained names)
 
--- these are the chains of a netlist whose gates have these phases and epochs
-pub record AreChains (chained : Chained) (net : GateNet) (phases : List ℕ) (n : ℕ) (epochs : Epochs) : Type 0 where
-  pub gates : chained.gates ≡ net
-  pub count : chained.n ≡ n
-  pub stages : chained.stages ≡ (chained_of net phases n epochs).stages
-  pub latency : chained.latency ≡ (chained_of net phases n epochs).latency
-  pub needs : chained.needs ≡ (chained_of net phases n epochs).needs
-
 -- The chains of balanced epochs keep time.
 abbrev pub ChainsKeepTime : Type 0
-ChainsKeepTime = (net : GateNet) (phases : List ℕ) (n : ℕ) (epochs : Epochs) (chained : Chained) → HasChains net phases n epochs → AreChains chained net phases n epochs → KeepsTime chained
+ChainsKeepTime = (net : GateNet) (phases : List ℕ) (n : ℕ) (epochs : Epochs) → HasChains net phases n epochs → KeepsTime (chained_of net phases n epochs)
+
+-- So they are laid out as a valid netlist.
+abbrev pub ChainsAreValid : Type 0
+ChainsAreValid =
+    (net : GateNet) (phases : List ℕ) (n : ℕ) (epochs : Epochs) (names : Names) → HasChains net phases n epochs
+    → HasNames (chained_of net phases n epochs) names → IsValid (elements_of (chained_of net phases n epochs) names)

@@ -5,7 +5,7 @@ use Rattle.gate_net.specs.declared.row.Driver.{Driver}
 use Rattle.gate_net.specs.declared.row.Driver.TheVariants.{Input, Gate}
 use Rattle.gate_net.specs.Rows.{same_driver}
 use Rattle.gate_net.specs.Net.{pin_drivers, IsThere, IsGateNet}
-use Rattle.splitters.specs.declared.chained.Chained.{Chained}
+use Rattle.dro_chains.specs.declared.chain.Chained.{Chained}
 
 -- a pin in front of others, if it is one that is sought
 abbrev pub with_pin : Bool → ℕ → List ℕ → List ℕ
@@ -64,15 +64,22 @@ abbrev pub driver_stage : Chained → Driver → ℕ
 driver_stage chained (Input i) = 0
 driver_stage chained (Gate k) = slice_index chained.stages k
 
--- the stage of each DRO fits 32 bits
+-- the stage of what each pin takes from, a driver or a DRO of its chain, fits 32 bits
 abbrev pub StagesFit : Chained → Type 0
 StagesFit chained =
-    (driver : Driver) → IsThere chained.gates.inputs (length chained.gates.gates) driver
-    → driver_stage chained driver + chained.n * (length (taps_of chained driver) - 1) < 2 ^ 32
+    (pin : ℕ) (d : Driver) → pin < length (pin_drivers chained.gates)
+    → driver_stage chained (slice_index_or (pin_drivers chained.gates) pin d) + chained.n * slice_index chained.needs pin < 2 ^ 32
 
--- gates with their chains and the table of their taps, of which the stages fit
+-- which gates with shared chains can be laid out: well formed, with fewer than 2 ^ 31 pins and stages that fit
+pub record CanSplit (chained : Chained) : Type 0 where
+  pub formed : IsGateNet chained.gates
+  pub few_pins : length (pin_drivers chained.gates) < 2 ^ 31
+  pub stages : StagesFit chained
+
+-- gates with their chains and the table of their taps, of which the pins and the stages fit
 pub record IsTapped (chained : Chained) (table : List (List (List ℕ))) : Type 0 where
   pub formed : IsGateNet chained.gates
+  pub few_pins : length (pin_drivers chained.gates) < 2 ^ 31
   pub fits : StagesFit chained
   pub each : length table ≡ chained.gates.inputs + length chained.gates.gates
   pub taps : HasTaps chained.gates.inputs (length chained.gates.gates) chained.needs (pin_drivers chained.gates) table

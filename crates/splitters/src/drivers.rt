@@ -5,16 +5,16 @@ ghost use Rattle.gate_net.specs.Net.{IsThere, pin_drivers};
 ghost use Rattle.splitters.specs.Taps.{IsTapped, driver_stage, taps_of};
 ghost use Rattle.splitters.specs.Elements.{with_chain, with_gate, with_gates, with_inputs, gate_pins};
 
-use crate::Chained;
 use crate::layout::Layout;
 use crate::table::slot;
 use crate::taps::Taps;
+use dro_chains::Chained;
 use gate_net::{Driver, GateRow};
 use net_base::NoMemory;
 use std::alloc::Global;
 
-// The stage of a driver: inputs have stage 0.
-fn stage(chained: &Chained, driver: Driver) -> u32
+/// The stage of a driver: inputs have stage 0.
+pub(crate) fn stage(chained: &Chained, driver: Driver) -> u32
     ensures { result ≡ driver_stage chained.now driver }
 {
     match driver {
@@ -68,14 +68,7 @@ pub(crate) fn lay_inputs(
     let _inputs = chained.gates.inputs;
     for (i, wire) in wires.iter().enumerate() {
         if let Some(wire) = *wire {
-            lay_chain(
-                alloc,
-                layout,
-                chained,
-                table,
-                Driver::Input(i as u32),
-                wire,
-            )?;
+            lay_chain(alloc, layout, chained, table, Driver::Input(i as u32), wire)?;
         }
     }
     Ok(())
@@ -118,15 +111,7 @@ pub(crate) fn lay_gates(
 {
     let mut pin = 0;
     for (gate, row) in chained.gates.gates.as_slice().iter().enumerate() {
-        lay_gate(
-            alloc,
-            layout,
-            chained,
-            table,
-            gate as u32,
-            pin,
-            row,
-        )?;
+        lay_gate(alloc, layout, chained, table, gate as u32, pin, row)?;
         pin += row.pins.len();
     }
     Ok(())

@@ -139,13 +139,7 @@ impl Layout {
     }
 
     // A wire is spread over the next DRO, at a stage, and pins. The wire that the DRO makes.
-    fn dro(
-        &mut self,
-        alloc: Global,
-        stage: u32,
-        wire: u32,
-        pins: &[u32],
-    ) -> Result<u32, NoMemory>
+    fn dro(&mut self, alloc: Global, stage: u32, wire: u32, pins: &[u32]) -> Result<u32, NoMemory>
         requires { All (λ pin. pin < length self.old.taken) pins.now }
         ensures ok { OnOk result (self.new ≡ with_dro stage wire pins.now self.old) }
         ensures wire { IfOk result (λ out. out ≡ (with_tap wire pins.now self.old).next) }

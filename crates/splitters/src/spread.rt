@@ -33,12 +33,6 @@ pub(crate) fn spread(
         right: next + 1,
     })?;
     spread(elements, wires, next, next + 2, first)?;
-    spread(
-        elements,
-        wires,
-        next + 1,
-        next + 2 * first,
-        targets - first,
-    )?;
+    spread(elements, wires, next + 1, next + 2 * first, targets - first)?;
     Ok(())
 }

@@ -1,6 +1,6 @@
 //! The taps of all drivers, in a table of inputs and then gates.
 
-ghost use Rattle.std.specs.Prelude.{◌≡◌, ◌++◌, ◌+◌, ◌^◌, ◌<◌, [], All, IfOk, OnOk, length, replicate};
+ghost use Rattle.std.specs.Prelude.{◌≡◌, ◌++◌, ◌+◌, ◌^◌, ◌<◌, [], All, IfOk, OnOk, length, replicate, slice_index};
 ghost use Rattle.std.specs.List.{flat_map};
 ghost use Rattle.gate_net.specs.Net.{IsThere, end_drivers, pin_drivers};
 ghost use Rattle.splitters.specs.Taps.{HasTaps, slot};
@@ -71,6 +71,13 @@ fn empty_table(alloc: Global, slots: usize) -> Result<Vec<Taps>, NoMemory>
     Ok(table)
 }
 
+/// The need of a pin.
+pub(crate) fn need(needs: &[u32], pin: usize) -> u32
+    ensures { result ≡ slice_index needs.now pin }
+{
+    needs.get(pin).copied().unwrap_or(0)
+}
+
 /// The taps of each driver, from the driver and the need of each pin.
 pub(crate) fn gather(
     alloc: Global,
@@ -87,8 +94,7 @@ pub(crate) fn gather(
 {
     let mut table = empty_table(alloc, inputs as usize + gates)?;
     for (pin, driver) in drivers.iter().enumerate() {
-        let need = needs.get(pin).copied().unwrap_or(0);
-        table[slot(inputs, *driver)].add(alloc, need, pin as u32)?;
+        table[slot(inputs, *driver)].add(alloc, need(needs, pin), pin as u32)?;
     }
     Ok(table)
 }

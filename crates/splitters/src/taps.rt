@@ -1,6 +1,6 @@
 //! The taps of one driver.
 
-ghost use Rattle.std.specs.Prelude.{◌≡◌, ◌+◌, ◌++◌, ◌∷◌, ◌==◌, [], ℕ, cond, max, length, OnOk, slice_index_or};
+ghost use Rattle.std.specs.Prelude.{◌≡◌, ◌↔◌, IsTrue, ◌+◌, ◌++◌, ◌∷◌, ◌==◌, [], ℕ, cond, max, length, OnOk, slice_index_or};
 ghost use Rattle.splitters.specs.Taps.{tap_at};
 
 use net_base::{List, NoMemory};
@@ -56,6 +56,13 @@ impl Taps {
         ensures pins { OnOk result ((k : ℕ) → tap_at self.new k ≡ cond (need == k) (tap_at self.old k ++ pin ∷ []) (tap_at self.old k)) }
     {
         add(alloc, &mut self.pins, need, pin)
+    }
+
+    /// Whether the driver has no pin.
+    pub(crate) fn is_empty(&self) -> bool
+        ensures { IsTrue result ↔ (self.now ≡ []) }
+    {
+        self.pins.is_empty()
     }
 
     /// The taps in the order of their chain.

@@ -1,6 +1,7 @@
-use Rattle.std.proofs.Common.{◌≡◌, ℕ, List, length, sym, subst}
+use Rattle.std.proofs.Common.{◌≡◌, ◌∙◌, ℕ, List, length, sym, subst, ap, arith}
 use Rattle.gate_net.specs.Net.{pin_drivers}
-use Rattle.splitters.proofs.TapLemmas.{AreBelow, taps-below}
+use Rattle.splitters.specs.Taps.{tap_count, driver_stage}
+use Rattle.splitters.proofs.TapLemmas.{AreBelow, taps-below, length-taps_at, chain-fits}
 use Rattle.splitters.proofs.drivers.lay_chain.Goals as goal
 
 pub chain-requires-clause-below : goal.chain-requires-clause-below
@@ -10,3 +11,13 @@ chain-requires-clause-below c =
     (subst (λ (n : ℕ). AreBelow n c.index-table-slot.result) (sym c.requires.pins)
     (taps-below net.inputs (length net.gates) c.args.chained.now.needs (pin_drivers net) c.args.table.now c.args.driver c.slot.result c.index-table-slot.result
     c.requires.tapped.taps c.requires.tapped.each c.requires.there c.slot.ensures c.index-table-slot.is))
+
+pub chain-requires-clause-fits : goal.chain-requires-clause-fits
+chain-requires-clause-fits c =
+    let net = c.args.chained.now.gates in
+    let many : length c.as_slice.result.now ≡ tap_count c.args.chained.now.needs c.args.driver 0 (pin_drivers net) =
+    ap length c.as_slice.ensures
+    ∙ length-taps_at net.inputs (length net.gates) c.args.chained.now.needs (pin_drivers net) c.args.table.now c.args.driver c.slot.result c.index-table-slot.result
+    c.requires.tapped.taps c.requires.tapped.each c.requires.there c.slot.ensures c.index-table-slot.is in
+    chain-fits (driver_stage c.args.chained.now) c.args.chained.now.n c.args.chained.now.needs c.args.driver (pin_drivers net) c.stage.result (length c.as_slice.result.now)
+    c.stage.ensures (omega arith) many c.requires.tapped.fits

@@ -1,4 +1,4 @@
-use Rattle.std.proofs.Common.{◌≡◌, ◌≤◌, ℕ, ap, sym, ◌∙◌, ◌++◌, ◌+◌, ◌*◌, ◌-◌, ◌/◌, List, arith}
+use Rattle.std.proofs.Common.{◌≤◌, ℕ, ap, ◌∙◌, ◌++◌, ◌+◌, ◌*◌, ◌-◌, List, arith}
 use Rattle.pulse_net.specs.declared.net.Element.{Element}
 use Rattle.splitters.specs.Spread.{spread_lines, spread_wires, first_half}
 use Rattle.splitters.proofs.Trees.{spread_lines-joined, spread_wires-joined}
