@@ -29,4 +29,4 @@ mod taps;
 
 pub use build::split;
 pub use fits::can_split;
-pub use laws::{chains_are_valid, chains_keep_time, layout_is_valid};
+pub use laws::{chains_are_valid, chains_keep_time, dros_are_the_chains, layout_is_valid};
