@@ -10,4 +10,5 @@ pub mod WiredGates
 pub mod WiredInputs
 pub mod WiredWhole
 pub mod WiredTimes
+pub mod WiredDros
 pub mod Examples

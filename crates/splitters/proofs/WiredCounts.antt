@@ -1,12 +1,11 @@
 -- How often a wire stands in a list, wires in a run of numbers, and what stays found while elements follow.
-use Rattle.std.proofs.Common.{◌≡◌, ◌≤◌, ◌<◌, ℕ, zero, suc, ◌+◌, Bool, true, false, cond, nat_eq, List, [], ◌∷◌, ◌++◌, refl, ap, sym, ◌∙◌, arith}
+use Rattle.std.proofs.Common.{◌≡◌, ℕ, zero, suc, ◌+◌, Bool, true, false, cond, nat_eq, List, [], ◌∷◌, ◌++◌, refl, ap, sym, ◌∙◌, arith}
 use Rattle.std.proofs.lemmas.Bool.{true≢false, eqb-true}
-use Rattle.std.specs.Prelude.{Option, Some, None, ⊤, flat_map}
-use Rattle.std.specs.Map.{lookup}
+use Rattle.std.specs.Prelude.{Some, None, ⊤}
 use Rattle.std.specs.Cmp.{nat_eq_equiv}
 use Rattle.pulse_net.specs.declared.net.Element.{Element}
 use Rattle.pulse_net.specs.Wires.{Wires, found, element_wires, after_elements, cell_stage}
-use Rattle.pulse_net.specs.Wired.{ElementInTime, ElementsInTime}
+use Rattle.pulse_net.specs.Wired.{ElementsInTime}
 
 -- one for the wire itself, and nothing for another
 pub once : ℕ → ℕ → ℕ

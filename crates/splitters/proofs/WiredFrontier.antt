@@ -1,12 +1,10 @@
 -- The frontier: the wires that are made and not used yet. What is laid out so far keeps the rules on wires, but for those
 -- of the frontier, which wait for their users. Each step takes one wire from it, or a gate's pins, and adds what it makes.
-use Rattle.std.proofs.Common.{◌≡◌, ◌≤◌, ◌<◌, ℕ, zero, suc, ◌+◌, ◌-◌, ◌*◌, Bool, true, false, cond, nat_eq, List, [], ◌∷◌, ◌++◌, length, All, refl, ap, sym, subst, ◌∙◌, arith, append_assoc}
-use Rattle.std.specs.Prelude.{Option, Some, None, unwrap_or, flat_map, map}
-use Rattle.std.specs.Map.{lookup}
+use Rattle.std.proofs.Common.{◌≡◌, ◌≤◌, ℕ, zero, suc, ◌+◌, ◌-◌, ◌*◌, cond, nat_eq, List, [], ◌∷◌, ◌++◌, length, All, refl, ap, sym, subst, ◌∙◌, arith, append_assoc}
+use Rattle.std.specs.Prelude.{Option, Some, None, unwrap_or, flat_map}
 use Rattle.std.proofs.lemmas.List.{append-nil}
 use Rattle.std.proofs.lemmas.List.Concat.{flat_map-append}
 use Rattle.std.proofs.lemmas.List.Elements.{All-nil, All-cons, All-append}
-use Rattle.std.proofs.lemmas.Bool.{eqb-true}
 use Rattle.cell_lib.specs.declared.cell.Cell.{Cell}
 use Rattle.cell_lib.specs.Cell.{arity_of}
 use Rattle.pulse_net.specs.declared.net.Element.{Element}
@@ -14,8 +12,8 @@ use Rattle.pulse_net.specs.declared.net.Element.TheVariants.{Clocked, Split}
 use Rattle.pulse_net.specs.Formed.{HasItsPins}
 use Rattle.pulse_net.specs.Wires.{Wires, found, carried, element_wires, element_uses, cell_stage}
 use Rattle.pulse_net.specs.Wired.{element_makes, ArriveInTime, ElementInTime, ElementsInTime}
-use Rattle.splitters.specs.Spread.{first_half, tree_lines, tree_wires, spread_lines, spread_wires}
-use Rattle.splitters.proofs.Trees.{half-below, rest-below, tree_wires-depth}
+use Rattle.splitters.specs.Spread.{first_half, tree_lines, tree_wires}
+use Rattle.splitters.proofs.Trees.{half-below, rest-below}
 use Rattle.splitters.proofs.WiredCounts.{once, times, times-append, run, run-append, run-split, found-behind, after, after-append, after-stays, in_time-append, AreFound, AreFound-append, AreFound-stay, same-found, nat_eq-other}
 
 -- Elements are laid out behind `first` wires of inputs, with the wires below `next` made, and this often each wire waits.

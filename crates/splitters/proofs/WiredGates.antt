@@ -1,29 +1,27 @@
 -- The gates: each takes the wires of its pins, which wait since drivers stand before users, and then comes its chain.
-use Rattle.std.proofs.Common.{◌≡◌, ◌≤◌, ◌<◌, ℕ, zero, suc, ◌+◌, ◌-◌, ◌*◌, max, Bool, true, false, cond, nat_eq, ◌&&◌, ◌||◌, ◌==◌, List, [], ◌∷◌, ◌++◌, length, get_or, take, drop, All, refl, ap, sym, subst, ◌∙◌, arith, append_assoc, drop-cons, length-append, add-one}
+use Rattle.std.proofs.Common.{◌≡◌, ◌≤◌, ◌<◌, ℕ, suc, ◌+◌, ◌*◌, max, Bool, true, false, cond, nat_eq, ◌||◌, List, [], ◌∷◌, ◌++◌, length, get_or, take, drop, All, refl, ap, sym, subst, ◌∙◌, arith, append_assoc, drop-cons, length-append}
 use Rattle.std.proofs.lemmas.Bool.{true≢false, eqb-true, lt-ltb, ltb-true, ltb-false}
 use Rattle.std.proofs.lemmas.List.Elements.{All-head, All-tail}
 use Rattle.std.proofs.lemmas.List.Folds.{list_any_at}
-use Rattle.std.specs.Prelude.{Option, Some, None, ⊤, nat_lt, slice_index, Contains, flat_map}
+use Rattle.std.specs.Prelude.{⊤, nat_lt, slice_index, Contains, flat_map}
 use Rattle.std.specs.List.{list_any}
 use Rattle.std.specs.Cmp.{nat_eq_equiv}
-use Rattle.cell_lib.specs.declared.cell.Cell.{Cell}
 use Rattle.cell_lib.specs.Cell.{arity_of}
 use Rattle.gate_net.specs.declared.row.Driver.{Driver}
 use Rattle.gate_net.specs.declared.row.Driver.TheVariants.{Input, Gate}
 use Rattle.gate_net.specs.declared.row.GateRow.{GateRow}
 use Rattle.gate_net.specs.Rows.{same_driver}
-use Rattle.gate_net.specs.Net.{IsThere, IsGate, AreGates, pin_drivers, EachGateIsUsed}
-use Rattle.pulse_net.specs.declared.net.Element.{Element}
-use Rattle.pulse_net.specs.declared.net.Element.TheVariants.{Clocked, Split}
-use Rattle.pulse_net.specs.Wires.{Wires, found}
-use Rattle.pulse_net.specs.Wired.{IsInTime, ArriveInTime}
+use Rattle.gate_net.specs.Net.{IsThere, IsGate, pin_drivers}
+use Rattle.pulse_net.specs.declared.net.Element.TheVariants.{Clocked}
+use Rattle.pulse_net.specs.Wires.{Wires}
+use Rattle.pulse_net.specs.Wired.{ArriveInTime}
 use Rattle.dro_chains.specs.declared.chain.Chained.{Chained}
 use Rattle.splitters.specs.Elements.{Layout, with_cell, with_chain, with_gate, with_gates, gate_pins}
-use Rattle.splitters.specs.Taps.{with_pin, takers, tap_count, taps_at, taps_of, driver_stage}
+use Rattle.splitters.specs.Taps.{with_pin, tap_count, taps_at}
 use Rattle.splitters.specs.Laws.{tap_stage, PinsInTime, GatesInTime}
-use Rattle.splitters.proofs.WiredCounts.{once, times, times-append, after, after-append, AreFound, nat_eq-other, nat_eq-differs}
-use Rattle.splitters.proofs.WiredFrontier.{IsLaid, IsLaid-waits, IsLaid-cell}
-use Rattle.splitters.proofs.WiredPins.{Marks, held, AreStaged, Agree, Agree-all, AreStaged-stay}
+use Rattle.splitters.proofs.WiredCounts.{once, times, times-append, after, nat_eq-other, nat_eq-differs}
+use Rattle.splitters.proofs.WiredFrontier.{IsLaid-waits, IsLaid-cell}
+use Rattle.splitters.proofs.WiredPins.{Marks, held, AreStaged, Agree-all}
 use Rattle.splitters.proofs.WiredChains.{Stands, Stands-agree, AreStaged-step, GoesOn, DrivesNone, by_driver, and_driver, Stands-chain}
 
 -- the wires of these pins, from a number on

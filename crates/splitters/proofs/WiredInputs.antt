@@ -1,24 +1,21 @@
 -- The inputs: the used ones make the first wires in order, and each is the source of a chain.
-use Rattle.std.proofs.Common.{◌≡◌, ◌≤◌, ◌<◌, ℕ, zero, suc, ◌+◌, ◌-◌, ◌*◌, max, Bool, true, false, cond, nat_eq, ◌&&◌, ◌||◌, ◌==◌, List, [], ◌∷◌, ◌++◌, length, get_or, replicate, All, refl, ap, sym, subst, ◌∙◌, arith}
-use Rattle.std.proofs.lemmas.Bool.{true≢false, eqb-true, lt-ltb, le-ltb, ltb-true, ltb-false}
-use Rattle.std.proofs.lemmas.List.Elements.{All-nil, All-head, All-tail}
-use Rattle.std.specs.Prelude.{Option, Some, None, ⊤, nat_lt, flat_map, option_to_list}
+use Rattle.std.proofs.Common.{◌≡◌, ◌≤◌, ◌<◌, ℕ, zero, suc, ◌+◌, ◌*◌, Bool, true, false, cond, nat_eq, ◌||◌, List, [], ◌∷◌, length, refl, ap, sym, subst, ◌∙◌, arith}
+use Rattle.std.proofs.lemmas.Bool.{true≢false, eqb-true, lt-ltb, ltb-true, ltb-false}
+use Rattle.std.specs.Prelude.{Option, Some, None, nat_lt, flat_map, option_to_list}
 use Rattle.std.specs.List.{list_any}
 use Rattle.gate_net.specs.declared.row.Driver.{Driver}
 use Rattle.gate_net.specs.declared.row.Driver.TheVariants.{Input, Gate}
 use Rattle.gate_net.specs.Rows.{same_driver}
-use Rattle.gate_net.specs.Net.{IsThere, pin_drivers}
-use Rattle.pulse_net.specs.declared.net.Element.{Element}
+use Rattle.gate_net.specs.Net.{pin_drivers}
 use Rattle.pulse_net.specs.Wires.{Wires, found, input_stage, input_wires as made_inputs}
 use Rattle.dro_chains.specs.declared.chain.Chained.{Chained}
-use Rattle.splitters.specs.Elements.{Layout, with_chain, input_wires, wire_count, with_inputs, inputs_of, empty_layout}
-use Rattle.splitters.specs.Taps.{with_pin, tap_count, taps_of, is_used}
+use Rattle.splitters.specs.Elements.{Layout, with_chain, input_wires, wire_count, with_inputs}
+use Rattle.splitters.specs.Taps.{taps_of, is_used}
 use Rattle.splitters.specs.Laws.{tap_stage}
-use Rattle.splitters.proofs.WiredCounts.{once, times, times-append, run, after, after-stays, AreFound, nat_eq-other, nat_eq-differs, once-same, once-other}
-use Rattle.splitters.proofs.WiredFrontier.{IsLaid, IsLaid-waits}
-use Rattle.splitters.proofs.WiredPins.{Marks, held, AreStaged, Agree, Agree-all}
-use Rattle.splitters.proofs.WiredChains.{Stands, Stands-agree, GoesOn, DrivesNone, by_driver, and_driver, Stands-chain}
-use Rattle.splitters.proofs.WiredGates.{before_gate, tap_count-some}
+use Rattle.splitters.proofs.WiredCounts.{once, times, run, after-stays, AreFound, nat_eq-other, nat_eq-differs, once-same, once-other}
+use Rattle.splitters.proofs.WiredPins.{Agree, Agree-all}
+use Rattle.splitters.proofs.WiredChains.{Stands, Stands-agree, by_driver, and_driver, Stands-chain}
+use Rattle.splitters.proofs.WiredGates.{tap_count-some}
 
 -- how often a wire stands in a run
 pub times-run_out : (wire from count : ℕ) → from + count ≤ wire → times wire (run from count) ≡ 0

@@ -1,6 +1,6 @@
 -- The chains of balanced epochs keep time: a pin's need leaves 1 to n ticks, whatever the phases.
 use Rattle.std.proofs.Common.{◌≡◌, ◌≤◌, ◌<◌, ℕ, zero, suc, ◌+◌, ◌-◌, ◌*◌, List, [], ◌∷◌, ◌++◌, length, get_or, map, All, refl, ap, sym, subst, ◌∙◌, arith, length-append, append_assoc}
-use Rattle.std.proofs.lemmas.List.{append-nil, get_or-append_right, map-append, length-map}
+use Rattle.std.proofs.lemmas.List.{append-nil, length-map}
 use Rattle.std.proofs.lemmas.List.Elements.{All-head, All-tail, recursion_from_All}
 use Rattle.std.specs.Prelude.{⊤, flat_map}
 use Rattle.std.specs.List.{AllByRecursion}
@@ -10,24 +10,23 @@ use Rattle.gate_net.specs.declared.row.End.{End}
 use Rattle.gate_net.specs.declared.row.End.TheVariants.{Zero as False, One as True, From}
 use Rattle.gate_net.specs.declared.row.GateRow.{GateRow}
 use Rattle.gate_net.specs.declared.net.GateNet.{GateNet}
-use Rattle.gate_net.specs.Net.{IsThere, IsEndThere, IsGate, IsGateNet, EachGateIsUsed, pin_drivers, end_drivers}
-use Rattle.phase_rule.specs.Levels.{ArePhases, driver_phase}
-use Rattle.phase_rule.specs.Stages.{stage_of, weight_of, need_over_stages, need_over_epochs}
+use Rattle.gate_net.specs.Net.{IsThere, IsEndThere, IsGate, end_drivers}
+use Rattle.phase_rule.specs.Levels.{driver_phase}
+use Rattle.phase_rule.specs.Stages.{stage_of, weight_of, need_over_epochs}
 use Rattle.phase_rule.proofs.Gaps.{need_gaps_agree, need_leaves_window}
 use Rattle.flow_net.specs.declared.uses.Use.{Use}
-use Rattle.flow_net.specs.declared.net.Pin.{Pin}
 use Rattle.flow_net.specs.declared.net.Epochs.{Epochs}
 use Rattle.flow_net.specs.Uses.{use_by, gate_uses, sink_of, uses_of}
-use Rattle.flow_net.specs.Network.{vertex_of, vertex_phase, pin_of, network_of}
+use Rattle.flow_net.specs.Network.{vertex_of, vertex_phase, pin_of}
 use Rattle.flow_net.specs.Epochs.{epoch_at, IsPinBalanced, need_of}
-use Rattle.dro_chains.specs.Chains.{HasChains, chained_of, stages_of}
+use Rattle.dro_chains.specs.Chains.{chained_of, stages_of}
 use Rattle.pulse_net.specs.Wired.{IsInTime}
 use Rattle.dro_chains.specs.declared.chain.Chained.{Chained}
 use Rattle.splitters.specs.Elements.{gate_pins}
 use Rattle.splitters.specs.Taps.{driver_stage}
-use Rattle.splitters.specs.Laws.{tap_stage, PinsInTime, GatesInTime, KeepsTime, AreChains, ChainsKeepTime}
+use Rattle.splitters.specs.Laws.{PinsInTime, GatesInTime, ChainsKeepTime, ChainsAreValid}
 use Rattle.splitters.proofs.WiredGates.{AreGatesFrom}
-use Rattle.splitters.proofs.WiredWhole.{gates-from}
+use Rattle.splitters.proofs.WiredWhole.{gates-from, layout_is_valid}
 
 -- A pin behind as many DROs as it needs is read in time.
 pub need-in_time : (n user_epoch user_phase driver_epoch driver_phase : ℕ) → 0 < n → user_phase < n → driver_phase < n → driver_epoch + weight_of user_phase driver_phase ≤ user_epoch →
@@ -179,21 +178,21 @@ none-used (u ∷ uses) h = absurd (omega arith)
 
 -- The chains of balanced epochs keep time.
 pub chains_keep_time : ChainsKeepTime
-chains_keep_time net phases n epochs chained has are =
+chains_keep_time net phases n epochs has =
+    let chained = chained_of net phases n epochs in
     let formed = has.fits.network.formed in
-    let count = are.count in
     let e = has.fits.each in
     let p = has.fits.network.phased in
     let rows = net.gates in
     let ends = net.outputs in
     let outs = flat_map end_drivers ends in
     let sink = sink_of net in
-    let some : 0 < chained.n = let s = has.some_phase in omega (arith, count, s) in
+    let some : 0 < chained.n = has.some_phase in
     let chains : Chains chained net phases epochs = record {
       some = some;
-      below = subst (λ m. All (λ phase. phase < m) phases) (sym count) has.phased.below;
-      stages = are.stages ∙ ap (λ m. stages_of m epochs.gates phases) (sym count);
-      needs = are.needs;
+      below = has.phased.below;
+      stages = refl;
+      needs = refl;
       balanced = recursion_from_All (IsPinBalanced epochs) (map (pin_of net phases) (uses_of net)) has.balanced.pins;
       epochs_each = e;
       phases_each = p;
@@ -207,26 +206,29 @@ chains_keep_time net phases n epochs chained has are =
     let reading : chained.n * chained.latency ≡ stage_of chained.n (epoch_at epochs sink) (vertex_phase phases sink) =
     let at : epoch_at epochs sink ≡ epochs.sink = ap (λ k. get_or epochs.gates k epochs.sink) (sym e) ∙ get_or-past epochs.gates epochs.sink in
     let zero_phase : vertex_phase phases sink ≡ 0 = ap (λ k. get_or phases k 0) (sym p) ∙ get_or-past phases 0 in
-    let same = ap (λ k. chained.n * k) (are.latency ∙ sym at) in
+    let same = ap (λ k. chained.n * k) (sym at) in
     omega (arith, same, zero_phase) in
     let timed_outs : PinsInTime chained (chained.n * chained.latency) (gate_pins rows) outs =
     pins-timed chained net phases epochs chains by_gates [] sink (gate_pins rows) (chained.n * chained.latency) outs whole (sym (length-gate_uses 1 rows)) reading
     (get_or-below chained.n phases (length net.gates) some chains.below) (below-ends net.inputs (length rows) ends formed.outputs) in
     record {
-      formed = subst (λ (g : GateNet). IsGateNet g) (sym are.gates) formed;
-      used = subst (λ (g : GateNet). EachGateIsUsed g) (sym are.gates) has.used;
+      formed = formed;
+      used = has.used;
       some_phase = some;
-      few_phases = let s = has.sixteen_phases in omega (arith, s, count);
-      latency = let s = has.latency in let l = are.latency in omega (arith, s, l);
-      gates = subst (λ (g : GateNet). GatesInTime chained 0 0 g.gates) (sym are.gates) timed_gates;
-      outputs = subst (λ (g : GateNet). PinsInTime chained (chained.n * chained.latency) (gate_pins g.gates) (flat_map end_drivers g.outputs)) (sym are.gates) timed_outs;
+      few_phases = has.sixteen_phases;
+      latency = has.latency;
+      gates = timed_gates;
+      outputs = timed_outs;
       empty = λ none.
-          let no_pins : pin_drivers net ≡ [] = ap pin_drivers (sym are.gates) ∙ none in
-          let a = ap length no_pins in
+          let a = ap length none in
           let b = length-append (flat_map (λ (row : GateRow). row.pins) rows) outs in
           let c = length-row_pins rows in
           let d = length-append by_gates last in
           let f = length-gate_uses 1 rows in
           let g = length-map outs (use_by sink) in
-          are.latency ∙ has.empty (none-used (uses_of net) (omega (arith, a, b, c, d, f, g)));
+          has.empty (none-used (uses_of net) (omega (arith, a, b, c, d, f, g)));
     }
+
+-- So they are laid out as a valid netlist.
+pub chains_are_valid : ChainsAreValid
+chains_are_valid net phases n epochs names has named = layout_is_valid (chained_of net phases n epochs) names (chains_keep_time net phases n epochs has) named

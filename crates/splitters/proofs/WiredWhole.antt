@@ -1,11 +1,10 @@
 -- The whole netlist: behind the last gate the wires of the outputs wait, and no other, so each wire is used once.
-use Rattle.std.proofs.Common.{◌≡◌, ◌≤◌, ◌<◌, ℕ, zero, suc, ◌+◌, ◌-◌, ◌*◌, max, Bool, true, false, cond, nat_eq, ◌&&◌, ◌||◌, ◌==◌, List, [], ◌∷◌, ◌++◌, length, get_or, replicate, All, refl, ap, sym, subst, ◌∙◌, arith, length-append, append_assoc}
-use Rattle.std.proofs.lemmas.Bool.{true≢false, eqb-true, lt-ltb, le-ltb, or_left, or_right, or_cases}
+use Rattle.std.proofs.Common.{◌≡◌, ◌≤◌, ◌<◌, ℕ, suc, ◌+◌, ◌*◌, Bool, true, false, nat_eq, ◌||◌, ◌==◌, List, [], ◌∷◌, ◌++◌, length, get_or, replicate, All, refl, ap, sym, subst, ◌∙◌, arith}
+use Rattle.std.proofs.lemmas.Bool.{true≢false, lt-ltb, le-ltb, or_left, or_right}
 use Rattle.std.proofs.lemmas.List.{append-nil, length-replicate}
 use Rattle.std.proofs.lemmas.List.Elements.{All-nil, All-head, All-tail}
-use Rattle.std.proofs.lemmas.List.Concat.{flat_map-append}
 use Rattle.std.proofs.lemmas.Map.Keys.{IsDistinct-cons, IsDistinct-from_apart}
-use Rattle.std.specs.Prelude.{Option, Some, None, ⊤, IsTrue, nat_lt, flat_map, option_to_list}
+use Rattle.std.specs.Prelude.{Option, ⊤, flat_map, option_to_list}
 use Rattle.std.specs.List.{list_any, IsDistinct, AllByRecursion}
 use Rattle.std.specs.Cmp.{nat_eq_equiv}
 use Rattle.gate_net.specs.declared.row.Driver.{Driver}
@@ -13,26 +12,21 @@ use Rattle.gate_net.specs.declared.row.Driver.TheVariants.{Input, Gate}
 use Rattle.gate_net.specs.declared.row.End.{End}
 use Rattle.gate_net.specs.declared.row.End.TheVariants.{Zero as False, One as True, From}
 use Rattle.gate_net.specs.declared.row.GateRow.{GateRow}
-use Rattle.gate_net.specs.Rows.{same_driver}
-use Rattle.gate_net.specs.Net.{IsThere, IsEndThere, IsGate, AreGates, IsGateNet, pin_drivers, end_drivers}
+use Rattle.gate_net.specs.Net.{IsThere, IsEndThere, IsGate, pin_drivers, end_drivers}
 use Rattle.pulse_net.specs.declared.net.Names.{Names}
-use Rattle.pulse_net.specs.declared.net.Element.{Element}
-use Rattle.pulse_net.specs.declared.net.Outlet.{Outlet}
-use Rattle.pulse_net.specs.declared.net.Outlet.TheVariants.{Zero, One, Wire}
-use Rattle.pulse_net.specs.Formed.{IsFormed, HasItsPins}
-use Rattle.pulse_net.specs.Wires.{Wires, found, element_uses, outlet_uses, input_stage, uses_of, input_wires as made_inputs}
-use Rattle.pulse_net.specs.Wired.{element_makes, makes_of, OutletInTime, OutletsInTime, IsWired}
-use Rattle.pulse_net.specs.Validity.{is_among, has_wire, IsValid}
+use Rattle.pulse_net.specs.Formed.{HasItsPins}
+use Rattle.pulse_net.specs.Wires.{Wires, element_uses, outlet_uses, input_stage, uses_of, input_wires as made_inputs}
+use Rattle.pulse_net.specs.Wired.{makes_of, OutletsInTime, IsWired}
+use Rattle.pulse_net.specs.Validity.{is_among, has_wire}
 use Rattle.pulse_net.proofs.Unbroken.{unbroken}
 use Rattle.dro_chains.specs.declared.chain.Chained.{Chained}
-use Rattle.splitters.specs.Elements.{Layout, input_wires, wire_count, with_inputs, with_gates, gate_pins, outlets, inputs_of, empty_layout, layout_of, elements_of}
+use Rattle.splitters.specs.Elements.{wire_count, with_inputs, gate_pins, outlets, inputs_of, empty_layout, layout_of, elements_of}
 use Rattle.splitters.specs.Taps.{with_pin, tap_count}
-use Rattle.splitters.specs.Laws.{tap_stage, PinsInTime, GatesInTime, KeepsTime, HasNames, LayoutIsValid}
+use Rattle.splitters.specs.Laws.{tap_stage, PinsInTime, KeepsTime, LayoutIsValid}
 use Rattle.splitters.proofs.WiredCounts.{once, times, times-append, run, run-split, after, AreFound, once-same, once-other}
-use Rattle.splitters.proofs.WiredFrontier.{IsLaid, IsLaid-waits}
 use Rattle.splitters.proofs.WiredPins.{Marks, held, AreStaged, Agree}
 use Rattle.splitters.proofs.WiredChains.{Stands, Stands-agree, DrivesNone, by_driver, tap_count-late}
-use Rattle.splitters.proofs.WiredGates.{pin_wires, length-pin_wires, AreReached, held-reached, before_gate, AreGatesFrom, tap_count-gate, Stands-gates, DrivesNone-there, DrivesNone-append}
+use Rattle.splitters.proofs.WiredGates.{pin_wires, AreReached, held-reached, before_gate, AreGatesFrom, tap_count-gate, Stands-gates, DrivesNone-there, DrivesNone-append}
 use Rattle.splitters.proofs.WiredInputs.{times-run_out, times-run_once, input_wires-run, length-input_wires, found-input, found-no_input, before_input, Stands-inputs}
 
 -- ---- lists of wires

@@ -1,8 +1,13 @@
 -- What is proved of the netlist of gates with shared chains.
-use Rattle.std.specs.Prelude.{◌≡◌, ◌≤◌, ℕ, ◌+◌, ◌*◌, List, [], ◌∷◌, length, slice_index, ⊤, flat_map}
+use Rattle.std.specs.Prelude.{◌≡◌, ◌≤◌, ℕ, zero, suc, ◌+◌, ◌-◌, ◌*◌, Bool, true, false, cond, List, [], ◌∷◌, length, slice_index, ⊤, flat_map}
+use Rattle.cell_lib.specs.declared.cell.Cell.{Cell}
+use Rattle.cell_lib.specs.declared.cell.Cell.TheVariants.{Dro, Not, And, Or, Xor}
 use Rattle.gate_net.specs.declared.row.Driver.{Driver}
+use Rattle.gate_net.specs.declared.row.Driver.TheVariants.{Input, Gate}
 use Rattle.gate_net.specs.declared.row.GateRow.{GateRow}
 use Rattle.gate_net.specs.Net.{pin_drivers, end_drivers, IsGateNet, EachGateIsUsed}
+use Rattle.pulse_net.specs.declared.net.Element.{Element}
+use Rattle.pulse_net.specs.declared.net.Element.TheVariants.{Clocked, Split}
 use Rattle.pulse_net.specs.declared.net.Names.{Names}
 use Rattle.pulse_net.specs.Wired.{IsInTime}
 use Rattle.pulse_net.specs.Validity.{IsValid}
@@ -10,7 +15,7 @@ use Rattle.gate_net.specs.declared.net.GateNet.{GateNet}
 use Rattle.flow_net.specs.declared.net.Epochs.{Epochs}
 use Rattle.dro_chains.specs.Chains.{HasChains, chained_of}
 use Rattle.dro_chains.specs.declared.chain.Chained.{Chained}
-use Rattle.splitters.specs.Taps.{driver_stage}
+use Rattle.splitters.specs.Taps.{driver_stage, taps_of}
 use Rattle.splitters.specs.Elements.{gate_pins, elements_of}
 
 -- the stage of a tap: n stages for each DRO behind its driver
@@ -50,14 +55,40 @@ pub record HasNames (chained : Chained) (names : Names) : Type 0 where
 abbrev pub LayoutIsValid : Type 0
 LayoutIsValid = (chained : Chained) (names : Names) → KeepsTime chained → HasNames chained names → IsValid (elements_of chained names)
 
--- these are the chains of a netlist whose gates have these phases and epochs
-pub record AreChains (chained : Chained) (net : GateNet) (phases : List ℕ) (n : ℕ) (epochs : Epochs) : Type 0 where
-  pub gates : chained.gates ≡ net
-  pub count : chained.n ≡ n
-  pub stages : chained.stages ≡ (chained_of net phases n epochs).stages
-  pub latency : chained.latency ≡ (chained_of net phases n epochs).latency
-  pub needs : chained.needs ≡ (chained_of net phases n epochs).needs
-
 -- The chains of balanced epochs keep time.
 abbrev pub ChainsKeepTime : Type 0
-ChainsKeepTime = (net : GateNet) (phases : List ℕ) (n : ℕ) (epochs : Epochs) (chained : Chained) → HasChains net phases n epochs → AreChains chained net phases n epochs → KeepsTime chained
+ChainsKeepTime = (net : GateNet) (phases : List ℕ) (n : ℕ) (epochs : Epochs) → HasChains net phases n epochs → KeepsTime (chained_of net phases n epochs)
+
+-- So they are laid out as a valid netlist.
+abbrev pub ChainsAreValid : Type 0
+ChainsAreValid =
+    (net : GateNet) (phases : List ℕ) (n : ℕ) (epochs : Epochs) (names : Names) → HasChains net phases n epochs
+    → HasNames (chained_of net phases n epochs) names → IsValid (elements_of (chained_of net phases n epochs) names)
+
+-- how many DROs there are among these elements
+abbrev pub is_dro : Cell → Bool
+is_dro Dro = true
+is_dro Not = false
+is_dro And = false
+is_dro Or = false
+is_dro Xor = false
+
+abbrev pub dros : List Element → ℕ
+dros [] = 0
+dros (Clocked cell stage pins out ∷ elements) = cond (is_dro cell) 1 0 + dros elements
+dros (Split from left right ∷ elements) = dros elements
+
+-- the chains of so many inputs from one on have so many DROs, and so have those of gates
+abbrev pub input_dros : Chained → ℕ → ℕ → ℕ
+input_dros chained input zero = 0
+input_dros chained input (suc more) = length (taps_of chained (Input input)) - 1 + input_dros chained (input + 1) more
+
+abbrev pub gate_dros : Chained → ℕ → ℕ → ℕ
+gate_dros chained gate zero = 0
+gate_dros chained gate (suc more) = length (taps_of chained (Gate gate)) - 1 + gate_dros chained (gate + 1) more
+
+-- There are as many DROs as the chains are long: a driver's has one for each tap behind its first.
+abbrev pub DrosAreTheChains : Type 0
+DrosAreTheChains =
+    (chained : Chained) (names : Names) → IsGateNet chained.gates
+    → dros (elements_of chained names).elements ≡ input_dros chained 0 chained.gates.inputs + gate_dros chained 0 (length chained.gates.gates)

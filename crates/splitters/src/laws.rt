@@ -1,6 +1,6 @@
 //! What the layout of gates with shared chains means, as laws. A law takes nothing and does nothing: its clause is the law.
 
-ghost use Rattle.splitters.specs.Laws.{ChainsKeepTime, LayoutIsValid};
+ghost use Rattle.splitters.specs.Laws.{ChainsAreValid, ChainsKeepTime, DrosAreTheChains, LayoutIsValid};
 
 /// Where each gate has a use, and each pin takes from its tap 1 to n ticks before its gate or before the reading, the
 /// netlist of gates with shared chains is valid: each wire is made once and used once, and each is read in time.
@@ -11,4 +11,14 @@ pub fn layout_is_valid()
 /// The chains of balanced epochs keep time: the DROs that a pin needs leave 1 to n ticks to its user.
 pub fn chains_keep_time()
     ensures { ChainsKeepTime }
+{}
+
+/// The answer of `chains` for balanced epochs is laid out as a valid netlist, where each input and output has its name.
+pub fn chains_are_valid()
+    ensures { ChainsAreValid }
+{}
+
+/// There are as many DROs as the chains are long: a driver's chain has one for each tap behind its first.
+pub fn dros_are_the_chains()
+    ensures { DrosAreTheChains }
 {}

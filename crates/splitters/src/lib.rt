@@ -8,10 +8,9 @@
 //! Promised: `split` answers `elements_of`, which is that netlist with all its numbers; its only refusal is `NoMemory`.
 //! `can_split` tells exactly where it may be called: the gates are well formed and have fewer than 2 ^ 31 pins, and each
 //! stage fits 32 bits. The time is linear in the wires.
-//! `layout_is_valid` says that the netlist is valid where each pin takes from its tap 1 to n ticks before its user, and
-//! `chains_keep_time` that the chains of balanced epochs do. The lengths of chains are not read, since a chain is as long
-//! as the largest need of its pins.
-//! Not promised yet: that unfolding the netlist gives the gates back.
+//! `chains_are_valid`: where `chains` answers for balanced epochs, that netlist is valid, so each wire is made once and used
+//! once, and each is read 1 to n ticks after it is made (`layout_is_valid`, `chains_keep_time`).
+//! The lengths of chains are not read, since a chain is as long as the largest need of its pins.
 //!
 //! Read `specs/Spread.antt` for the tree of splitters, `specs/Taps.antt` for who takes from which DRO, and
 //! `specs/Elements.antt` from `elements_of` down. `proofs/Examples.antt` evaluates the definitions on netlists made by
@@ -30,4 +29,4 @@ mod taps;
 
 pub use build::split;
 pub use fits::can_split;
-pub use laws::{chains_keep_time, layout_is_valid};
+pub use laws::{chains_are_valid, chains_keep_time, dros_are_the_chains, layout_is_valid};

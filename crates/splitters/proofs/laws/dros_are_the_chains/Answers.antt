@@ -1,0 +1,5 @@
+use Rattle.splitters.proofs.WiredDros.{dros_are_the_chains}
+use Rattle.splitters.proofs.laws.dros_are_the_chains.Goals as goal
+
+pub returns : goal.returns
+returns c = dros_are_the_chains
