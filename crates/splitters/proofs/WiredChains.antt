@@ -32,11 +32,11 @@ AreStaged-step start elements more stage marks needs taken pin drivers h =
 pub Stands-agree : (phases first : ℕ) (start : Wires ℕ) (stage : Driver → ℕ → ℕ) (needs : List ℕ) (pin : ℕ) (rest : List Driver) (marks others : Marks) (waits : ℕ → ℕ) (layout : Layout) →
     Agree marks others needs pin rest → Stands phases first start stage needs pin rest marks waits layout → Stands phases first start stage needs pin rest others waits layout
 Stands-agree phases first start stage needs pin rest marks others waits layout same h = record {
-    laid = IsLaid-waits phases first start layout.elements layout.next (λ w. waits w + times w (held marks needs layout.taken pin rest)) (λ w. waits w + times w (held others needs layout.taken pin rest))
+  laid = IsLaid-waits phases first start layout.elements layout.next (λ w. waits w + times w (held marks needs layout.taken pin rest)) (λ w. waits w + times w (held others needs layout.taken pin rest))
       (λ w. ap (λ (l : List ℕ). waits w + times w l) (held-agree marks others needs layout.taken pin rest same)) h.laid;
-    staged = AreStaged-agree (after start layout.elements) stage marks others needs layout.taken pin rest same h.staged;
-    room = h.room;
-  }
+  staged = AreStaged-agree (after start layout.elements) stage marks others needs layout.taken pin rest same h.staged;
+  room = h.room;
+}
 
 -- The last tap: its wire is spread over its pins.
 pub Stands-last : (phases first : ℕ) (start : Wires ℕ) (stage : Driver → ℕ → ℕ) (needs : List ℕ) (pin : ℕ) (rest : List Driver) (marks : Marks) (waits : ℕ → ℕ) (layout : Layout)
@@ -53,15 +53,15 @@ Stands-last phases first start stage needs pin rest marks waits layout driver ne
     let lines = spread_lines wire layout.next (length pins) in
     let old : ℕ → ℕ = λ w. waits w + times w (held marks needs layout.taken pin rest) in
     let spread = IsSpread-tree (length pins) (length pins) phases first start layout.elements layout.next old wire s (omega arith) some
-      (IsLaid-waits phases first start layout.elements layout.next (λ w. (once w wire + waits w) + times w (held marks needs layout.taken pin rest)) (λ w. once w wire + old w) (λ w. omega arith) h.laid)
-      source in
+    (IsLaid-waits phases first start layout.elements layout.next (λ w. (once w wire + waits w) + times w (held marks needs layout.taken pin rest)) (λ w. once w wire + old w) (λ w. omega arith) h.laid)
+    source in
     let each : length wires ≡ length pins = length-spread_wires wire layout.next (length pins) in
     record {
       laid = IsLaid-waits phases first start (layout.elements ++ lines) (layout.next + 2 * (length pins - 1)) (λ w. times w wires + old w)
-        (λ w. waits w + times w (held (and_tap marks driver need) needs (take_wires pins wires layout.taken) pin rest))
-        (λ w. let e = times-held marks needs driver need pin rest wires layout.taken w new each h.room in omega (arith, e)) spread.laid;
+          (λ w. waits w + times w (held (and_tap marks driver need) needs (take_wires pins wires layout.taken) pin rest))
+          (λ w. let e = times-held marks needs driver need pin rest wires layout.taken w new each h.room in omega (arith, e)) spread.laid;
       staged = AreStaged-held (after start (layout.elements ++ lines)) stage marks needs driver need s pin rest wires layout.taken level new each h.room spread.stages
-        (AreStaged-step start layout.elements lines stage marks needs layout.taken pin rest h.staged);
+          (AreStaged-step start layout.elements lines stage marks needs layout.taken pin rest h.staged);
       room = let e = length-taken pins wires layout.taken in let r = h.room in omega (arith, e, r);
     }
 
@@ -81,25 +81,25 @@ pub GoesOn-wires : (phases first : ℕ) (start : Wires ℕ) (stage : Driver → 
     IsSpread phases first start elements next (λ w. waits w + times w (held marks needs taken pin rest)) s wires →
     AreStaged (after start elements) stage marks needs taken pin rest →
     GoesOn phases first start stage needs pin rest (and_tap marks driver need) waits
-      (with_cell Dro (s + phases) (slice_index wires 0 ∷ []) (record { next = next; elements = elements; taken = take_wires (takers needs driver need pin rest) (drop 1 wires) taken }))
-      next (s + phases)
+    (with_cell Dro (s + phases) (slice_index wires 0 ∷ []) (record { next = next; elements = elements; taken = take_wires (takers needs driver need pin rest) (drop 1 wires) taken }))
+    next (s + phases)
 GoesOn-wires phases first start stage needs pin rest marks waits elements next taken driver need s [] some level new room each spread staged = absurd (omega arith)
 GoesOn-wires phases first start stage needs pin rest marks waits elements next taken driver need s (head ∷ wires) some level new room each spread staged =
     let pins = takers needs driver need pin rest in
     let old : ℕ → ℕ = λ w. waits w + times w (held marks needs taken pin rest) in
     let few : length wires ≡ length pins = omega arith in
     let cell = IsLaid-cell phases first start elements next (λ w. times w wires + old w) Dro (s + phases) (head ∷ [])
-      (IsLaid-waits phases first start elements next (λ w. times w (head ∷ wires) + old w) (λ w. times w (head ∷ []) + (times w wires + old w)) (λ w. omega arith) spread.laid)
-      refl
-      ((s, spread.stages.0, record { after = omega arith; within = omega arith }), tt) in
+    (IsLaid-waits phases first start elements next (λ w. times w (head ∷ wires) + old w) (λ w. times w (head ∷ []) + (times w wires + old w)) (λ w. omega arith) spread.laid)
+    refl
+    ((s, spread.stages.0, record { after = omega arith; within = omega arith }), tt) in
     let line = Clocked Dro (s + phases) (head ∷ []) next in
     record {
       stands = record {
         laid = IsLaid-waits phases first start (elements ++ line ∷ []) (next + 1) (λ w. once w next + (times w wires + old w))
-          (λ w. (once w next + waits w) + times w (held (and_tap marks driver need) needs (take_wires pins wires taken) pin rest))
-          (λ w. let e = times-held marks needs driver need pin rest wires taken w new few room in omega (arith, e)) cell.0;
+            (λ w. (once w next + waits w) + times w (held (and_tap marks driver need) needs (take_wires pins wires taken) pin rest))
+            (λ w. let e = times-held marks needs driver need pin rest wires taken w new few room in omega (arith, e)) cell.0;
         staged = AreStaged-step start elements (line ∷ []) stage (and_tap marks driver need) needs (take_wires pins wires taken) pin rest
-          (AreStaged-held (after start elements) stage marks needs driver need s pin rest wires taken level new few room spread.stages.1 staged);
+            (AreStaged-held (after start elements) stage marks needs driver need s pin rest wires taken level new few room spread.stages.1 staged);
         room = let e = length-taken pins wires taken in omega (arith, e);
       };
       source = cell.1;
@@ -112,17 +112,17 @@ pub GoesOn-dro : (phases first : ℕ) (start : Wires ℕ) (stage : Driver → �
     ((other : Driver) (its : ℕ) → (same_driver driver other && (its == need)) ≡ true → stage other its ≡ s) →
     IsNew marks driver need →
     GoesOn phases first start stage needs pin rest (and_tap marks driver need) waits
-      (with_dro (s + phases) wire (takers needs driver need pin rest) layout) ((with_tap wire (takers needs driver need pin rest) layout).next) (s + phases)
+    (with_dro (s + phases) wire (takers needs driver need pin rest) layout) ((with_tap wire (takers needs driver need pin rest) layout).next) (s + phases)
 GoesOn-dro phases first start stage needs pin rest marks waits layout driver need s wire some h level new =
     let pins = takers needs driver need pin rest in
     let targets = length pins + 1 in
     let old : ℕ → ℕ = λ w. waits w + times w (held marks needs layout.taken pin rest) in
     let spread = IsSpread-tree targets targets phases first start layout.elements layout.next old wire s (omega arith) (omega arith)
-      (IsLaid-waits phases first start layout.elements layout.next (λ w. (once w wire + waits w) + times w (held marks needs layout.taken pin rest)) (λ w. once w wire + old w) (λ w. omega arith) h.stands.laid)
-      h.source in
+    (IsLaid-waits phases first start layout.elements layout.next (λ w. (once w wire + waits w) + times w (held marks needs layout.taken pin rest)) (λ w. once w wire + old w) (λ w. omega arith) h.stands.laid)
+    h.source in
     GoesOn-wires phases first start stage needs pin rest marks waits (layout.elements ++ spread_lines wire layout.next targets) (layout.next + 2 * (targets - 1)) layout.taken driver need s
-      (spread_wires wire layout.next targets) some level new h.stands.room (length-spread_wires wire layout.next targets) spread
-      (AreStaged-step start layout.elements (spread_lines wire layout.next targets) stage marks needs layout.taken pin rest h.stands.staged)
+    (spread_wires wire layout.next targets) some level new h.stands.room (length-spread_wires wire layout.next targets) spread
+    (AreStaged-step start layout.elements (spread_lines wire layout.next targets) stage marks needs layout.taken pin rest h.stands.staged)
 
 -- a driver drives none of these pins
 abbrev pub DrivesNone : Driver → List Driver → Type 0
@@ -146,9 +146,9 @@ takers-last needs driver need pin (other ∷ drivers) h =
     by (same_driver driver other) (get_or needs pin 0 == need) (λ e. eqb-true (get_or needs pin 0) need e) (λ ne. nat_eq-differs (get_or needs pin 0) need ne) h (takers-last needs driver need (pin + 1) drivers)
   where
     by : (same here : Bool) → (here ≡ true → get_or needs pin 0 ≡ need) → (here ≡ false → get_or needs pin 0 ≡ need → ⊥) →
-      max (cond same (get_or needs pin 0 + 1) 0) (tap_count needs driver (pin + 1) drivers) ≡ suc need →
-      (tap_count needs driver (pin + 1) drivers ≡ suc need → 1 ≤ length (takers needs driver need (pin + 1) drivers)) →
-      1 ≤ length (with_pin (same && here) pin (takers needs driver need (pin + 1) drivers))
+        max (cond same (get_or needs pin 0 + 1) 0) (tap_count needs driver (pin + 1) drivers) ≡ suc need →
+        (tap_count needs driver (pin + 1) drivers ≡ suc need → 1 ≤ length (takers needs driver need (pin + 1) drivers)) →
+        1 ≤ length (with_pin (same && here) pin (takers needs driver need (pin + 1) drivers))
     by true true equal apart h rest = omega arith
     by true false equal apart h rest = let d = apart refl in rest (omega arith)
     by false here equal apart h rest = rest (omega arith)
@@ -229,24 +229,24 @@ Stands-taps phases first start stage needs used rest reached waits driver s need
     let next : need + 1 ≡ suc need = omega arith in
     let last : 1 ≤ length (takers needs driver need 0 (used ++ rest)) = takers-last needs driver need 0 (used ++ rest) (counted ∙ next) in
     let done = Stands-last phases first start stage needs (length used) rest (with_taps reached driver need) waits layout driver need at wire h.stands h.source
-      (taps-level stage driver s phases need at stages here) (with_taps-new reached driver need late)
-      (subst (λ (ps : List ℕ). 1 ≤ length ps) behind last) in
+    (taps-level stage driver s phases need at stages here) (with_taps-new reached driver need late)
+    (subst (λ (ps : List ℕ). 1 ≤ length ps) behind last) in
     subst (λ (ps : List ℕ). Stands phases first start stage needs (length used) rest (with_taps reached driver (need + 1)) waits (with_last wire ps layout)) (sym behind)
     (Stands-agree phases first start stage needs (length used) rest (and_tap (with_taps reached driver need) driver need) (with_taps reached driver (need + 1)) waits
-      (with_last wire (takers needs driver need (length used) rest) layout)
-      (Agree-all (and_tap (with_taps reached driver need) driver need) (with_taps reached driver (need + 1)) needs (length used) rest (with_taps-plus reached driver need)) done)
+    (with_last wire (takers needs driver need (length used) rest) layout)
+    (Agree-all (and_tap (with_taps reached driver need) driver need) (with_taps reached driver (need + 1)) needs (length used) rest (with_taps-plus reached driver need)) done)
 Stands-taps phases first start stage needs used rest reached waits driver s need (suc more) wire at layout some none late stages here counted h =
     let pins = takers needs driver need 0 (used ++ rest) in
     let behind = takers-behind needs driver need used rest none in
     let done = GoesOn-dro phases first start stage needs (length used) rest (with_taps reached driver need) waits layout driver need at wire some h
-      (taps-level stage driver s phases need at stages here) (with_taps-new reached driver need late) in
+    (taps-level stage driver s phases need at stages here) (with_taps-new reached driver need late) in
     let moved : GoesOn phases first start stage needs (length used) rest (and_tap (with_taps reached driver need) driver need) waits (with_dro (at + phases) wire pins layout) ((with_tap wire pins layout).next) (at + phases) =
     subst (λ (ps : List ℕ). GoesOn phases first start stage needs (length used) rest (and_tap (with_taps reached driver need) driver need) waits (with_dro (at + phases) wire ps layout) ((with_tap wire ps layout).next) (at + phases)) (sym behind) done in
     let out = (with_tap wire pins layout).next in
     let agreed : GoesOn phases first start stage needs (length used) rest (with_taps reached driver (need + 1)) waits (with_dro (at + phases) wire pins layout) out (at + phases) = record {
       stands = Stands-agree phases first start stage needs (length used) rest (and_tap (with_taps reached driver need) driver need) (with_taps reached driver (need + 1)) (λ w. once w out + waits w)
-        (with_dro (at + phases) wire pins layout)
-        (Agree-all (and_tap (with_taps reached driver need) driver need) (with_taps reached driver (need + 1)) needs (length used) rest (with_taps-plus reached driver need)) moved.stands;
+          (with_dro (at + phases) wire pins layout)
+          (Agree-all (and_tap (with_taps reached driver need) driver need) (with_taps reached driver (need + 1)) needs (length used) rest (with_taps-plus reached driver need)) moved.stands;
       source = moved.source;
     } in
     let counts : need + suc (suc more) ≡ (need + 1) + suc more = omega arith in
@@ -279,7 +279,7 @@ Agree-chain needs reached driver total pin (other ∷ drivers) few =
     (by (same_driver driver other) (reached other) (λ low. below-true (get_or needs pin 0) total low) few, Agree-chain needs reached driver total (pin + 1) drivers (omega arith))
   where
     by : (same before : Bool) → (get_or needs pin 0 < total → below (get_or needs pin 0) total ≡ true) → max (cond same (get_or needs pin 0 + 1) 0) (tap_count needs driver (pin + 1) drivers) ≤ total →
-      (before || same) ≡ (before || (same && below (get_or needs pin 0) total))
+        (before || same) ≡ (before || (same && below (get_or needs pin 0) total))
     by same true low few = refl
     by true false low few = sym (low (omega arith))
     by false false low few = refl
@@ -306,19 +306,18 @@ Stands-chain phases first start stage needs used rest reached waits driver s wir
     by (tap_count needs driver 0 (used ++ rest)) refl
   where
     by : (count : ℕ) → tap_count needs driver 0 (used ++ rest) ≡ count →
-      Stands phases first start stage needs (length used) rest (by_driver (and_driver reached driver)) waits (with_chain phases s wire (taps_from needs (used ++ rest) driver 0 count) layout)
+        Stands phases first start stage needs (length used) rest (by_driver (and_driver reached driver)) waits (with_chain phases s wire (taps_from needs (used ++ rest) driver 0 count) layout)
     by zero e = absurd (omega arith)
     by (suc more) e =
-      let z : s ≡ s + phases * 0 = omega arith in
-      let same : 0 + suc more ≡ suc more = omega arith in
-      let begun : GoesOn phases first start stage needs (length used) rest (with_taps reached driver 0) waits layout wire s = record {
-        stands = Stands-agree phases first start stage needs (length used) rest (by_driver reached) (with_taps reached driver 0) (λ w. once w wire + waits w) layout
-          (Agree-all (by_driver reached) (with_taps reached driver 0) needs (length used) rest (with_taps-none reached driver)) h.stands;
-        source = h.source;
-      } in
-      let done = Stands-taps phases first start stage needs used rest reached waits driver s 0 more wire s layout some none late stages z (e ∙ sym same) begun in
-      let few : tap_count needs driver (length used) rest ≤ 0 + suc more =
-      let f = tap_count-late needs driver 0 used rest none in let y : 0 + length used ≡ length used = omega arith in let g = ap (λ p. tap_count needs driver p rest) y in omega (arith, f, g, e) in
-      Stands-agree phases first start stage needs (length used) rest (with_taps reached driver (0 + suc more)) (by_driver (and_driver reached driver)) waits (with_chain phases s wire (taps_from needs (used ++ rest) driver 0 (suc more)) layout)
+        let z : s ≡ s + phases * 0 = omega arith in
+        let same : 0 + suc more ≡ suc more = omega arith in
+        let begun : GoesOn phases first start stage needs (length used) rest (with_taps reached driver 0) waits layout wire s = record {
+          stands = Stands-agree phases first start stage needs (length used) rest (by_driver reached) (with_taps reached driver 0) (λ w. once w wire + waits w) layout
+              (Agree-all (by_driver reached) (with_taps reached driver 0) needs (length used) rest (with_taps-none reached driver)) h.stands;
+          source = h.source;
+        } in
+        let done = Stands-taps phases first start stage needs used rest reached waits driver s 0 more wire s layout some none late stages z (e ∙ sym same) begun in
+        let few : tap_count needs driver (length used) rest ≤ 0 + suc more =
+        let f = tap_count-late needs driver 0 used rest none in let y : 0 + length used ≡ length used = omega arith in let g = ap (λ p. tap_count needs driver p rest) y in omega (arith, f, g, e) in
+        Stands-agree phases first start stage needs (length used) rest (with_taps reached driver (0 + suc more)) (by_driver (and_driver reached driver)) waits (with_chain phases s wire (taps_from needs (used ++ rest) driver 0 (suc more)) layout)
         (Agree-chain needs reached driver (0 + suc more) (length used) rest few) done
-

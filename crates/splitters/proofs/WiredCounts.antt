@@ -85,6 +85,7 @@ AreFound-stay made elements stage (wire ∷ wires) h = (after-stays made element
 
 pub same-found : (wire : ℕ) → nat_eq wire wire ≡ true
 same-found wire = nat_eq_equiv.refl wire
+
 -- wires that differ
 pub nat_eq-other : (a b : ℕ) → (a ≡ b → ⊥) → nat_eq a b ≡ false
 nat_eq-other a b apart = by (nat_eq a b) refl

@@ -65,15 +65,15 @@ tap_count-unused needs driver pin [] h = refl
 tap_count-unused needs driver pin (other ∷ drivers) h = by (same_driver driver other) h (tap_count-unused needs driver (pin + 1) drivers)
   where
     by : (same : Bool) → (same || list_any (same_driver driver) drivers) ≡ false → (list_any (same_driver driver) drivers ≡ false → tap_count needs driver (pin + 1) drivers ≡ 0) →
-      max (cond same (get_or needs pin 0 + 1) 0) (tap_count needs driver (pin + 1) drivers) ≡ 0
+        max (cond same (get_or needs pin 0 + 1) 0) (tap_count needs driver (pin + 1) drivers) ≡ 0
     by true h rest = absurd (true≢false h)
     by false h rest = let r = rest h in omega (arith, r)
 
-length-taps_from : (needs : List ℕ) (drivers : List Driver) (driver : Driver) (need count : ℕ) → length (taps_from needs drivers driver need count) ≡ count
+pub length-taps_from : (needs : List ℕ) (drivers : List Driver) (driver : Driver) (need count : ℕ) → length (taps_from needs drivers driver need count) ≡ count
 length-taps_from needs drivers driver need zero = refl
 length-taps_from needs drivers driver need (suc count) = ap suc (length-taps_from needs drivers driver (need + 1) count)
 
-no-taps : (chained : Chained) (driver : Driver) → is_used chained driver ≡ false → length (taps_of chained driver) ≡ 0
+pub no-taps : (chained : Chained) (driver : Driver) → is_used chained driver ≡ false → length (taps_of chained driver) ≡ 0
 no-taps chained driver h =
     length-taps_from chained.needs (pin_drivers chained.gates) driver 0 (tap_count chained.needs driver 0 (pin_drivers chained.gates)) ∙ tap_count-unused chained.needs driver 0 (pin_drivers chained.gates) h
 
@@ -84,11 +84,11 @@ dros-inputs chained input next (suc more) layout =
     by (is_used chained (Input input)) (no-taps chained (Input input)) (λ from lay. dros-inputs chained (input + 1) from more lay)
   where
     by : (used : Bool) → (used ≡ false → length (taps_of chained (Input input)) ≡ 0) →
-      ((from : ℕ) (lay : Layout) → dros (with_inputs chained (input + 1) (input_wires chained (input + 1) from more) lay).elements ≡ dros lay.elements + input_dros chained (input + 1) more) →
-      dros (with_inputs chained input (cond used (Some next) None ∷ input_wires chained (input + 1) (next + cond used 1 0) more) layout).elements ≡ dros layout.elements + input_dros chained input (suc more)
+        ((from : ℕ) (lay : Layout) → dros (with_inputs chained (input + 1) (input_wires chained (input + 1) from more) lay).elements ≡ dros lay.elements + input_dros chained (input + 1) more) →
+        dros (with_inputs chained input (cond used (Some next) None ∷ input_wires chained (input + 1) (next + cond used 1 0) more) layout).elements ≡ dros layout.elements + input_dros chained input (suc more)
     by true none rest =
-      let chain = dros-chain chained.n 0 next (taps_of chained (Input input)) layout in
-      let r = rest (next + 1) (with_chain chained.n 0 next (taps_of chained (Input input)) layout) in omega (arith, chain, r)
+        let chain = dros-chain chained.n 0 next (taps_of chained (Input input)) layout in
+        let r = rest (next + 1) (with_chain chained.n 0 next (taps_of chained (Input input)) layout) in omega (arith, chain, r)
     by false none rest = let r = rest (next + 0) layout in let z = none refl in omega (arith, r, z)
 
 dros-gates : (chained : Chained) (gate pin : ℕ) (rows : List GateRow) (layout : Layout) → AreGatesFrom chained.gates.inputs gate rows →

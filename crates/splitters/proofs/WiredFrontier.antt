@@ -30,14 +30,14 @@ pub record IsLaid (phases first : ℕ) (start : Wires ℕ) (elements : List Elem
 pub IsLaid-waits : (phases first : ℕ) (start : Wires ℕ) (elements : List Element) (next : ℕ) (waits others : ℕ → ℕ) →
     ((wire : ℕ) → others wire ≡ waits wire) → IsLaid phases first start elements next waits → IsLaid phases first start elements next others
 IsLaid-waits phases first start elements next waits others same laid = record {
-    in_time = laid.in_time;
-    pins = laid.pins;
-    count = laid.count;
-    reaches = laid.reaches;
-    makes = laid.makes;
-    fresh = laid.fresh;
-    balance = λ wire. ap (λ n. times wire (flat_map element_uses elements) + n) (same wire) ∙ laid.balance wire;
-  }
+  in_time = laid.in_time;
+  pins = laid.pins;
+  count = laid.count;
+  reaches = laid.reaches;
+  makes = laid.makes;
+  fresh = laid.fresh;
+  balance = λ wire. ap (λ n. times wire (flat_map element_uses elements) + n) (same wire) ∙ laid.balance wire;
+}
 
 -- one element more
 pub record IsStep (phases : ℕ) (made : Wires ℕ) (element : Element) (next count : ℕ) : Type 0 where
@@ -52,21 +52,21 @@ pub IsLaid-step : (phases first : ℕ) (start : Wires ℕ) (elements : List Elem
     ((wire : ℕ) → waits wire + times wire (run next count) ≡ times wire (element_uses element) + others wire) →
     IsLaid phases first start (elements ++ element ∷ []) (next + count) others
 IsLaid-step phases first start elements next waits others element count laid step moves = record {
-    in_time = in_time-append phases start elements (element ∷ []) laid.in_time (step.in_time, tt);
-    pins = All-append HasItsPins elements (element ∷ []) laid.pins (All-cons HasItsPins element [] step.pins (All-nil HasItsPins));
-    count = laid.count + count;
-    reaches = let e = laid.reaches in omega arith;
-    makes =
+  in_time = in_time-append phases start elements (element ∷ []) laid.in_time (step.in_time, tt);
+  pins = All-append HasItsPins elements (element ∷ []) laid.pins (All-cons HasItsPins element [] step.pins (All-nil HasItsPins));
+  count = laid.count + count;
+  reaches = let e = laid.reaches in omega arith;
+  makes =
       flat_map-append element_makes elements (element ∷ [])
       ∙ (λ i. laid.makes i ++ (append-nil (element_makes element) ∙ step.makes) i)
       ∙ ap (λ n. run first laid.count ++ run n count) (sym laid.reaches)
       ∙ sym (run-append first laid.count count);
-    fresh = λ wire high.
+  fresh = λ wire high.
       let old : found (after start elements) wire ≡ None = laid.fresh wire (omega arith) in
       ap (λ (made : Wires ℕ). found made wire) (after-append start elements (element ∷ []))
       ∙ found-behind (after start elements) (element_wires 0 cell_stage (after start elements) element) wire old
       ∙ step.fresh wire high;
-    balance = λ wire.
+  balance = λ wire.
       let old = laid.balance wire in
       let move = moves wire in
       let used : times wire (flat_map element_uses (elements ++ element ∷ [])) ≡ times wire (flat_map element_uses elements) + times wire (element_uses element) =
@@ -75,7 +75,7 @@ IsLaid-step phases first start elements next waits others element count laid ste
       let z : 0 + next ≡ next = omega arith in
       ap (times wire) (run-split 0 next next count z) ∙ times-append wire (run 0 next) (run next count) in
       omega (arith, old, move, used, made);
-  }
+}
 
 -- a wire that was found stays found behind one element more
 pub found-step : (start : Wires ℕ) (elements more : List Element) (wire stage : ℕ) → found (after start elements) wire ≡ Some stage → found (after start (elements ++ more)) wire ≡ Some stage
@@ -101,16 +101,17 @@ pub IsLaid-cell : (phases first : ℕ) (start : Wires ℕ) (elements : List Elem
     ArriveInTime phases (after start elements) stage pins →
     IsLaid phases first start (elements ++ Clocked cell stage pins next ∷ []) (next + 1) (λ wire. once wire next + rest wire)
     × (found (after start (elements ++ Clocked cell stage pins next ∷ [])) next ≡ Some stage)
-IsLaid-cell phases first start elements next rest cell stage pins laid each arrive =
-    (IsLaid-step phases first start elements next (λ wire. times wire pins + rest wire) (λ wire. once wire next + rest wire) (Clocked cell stage pins next) 1 laid
-    (record {
-      in_time = arrive;
-      pins = each;
-      makes = refl;
-      fresh = λ wire high. ap (λ here. cond here (Some stage) None) (nat_eq-other wire next (λ e. omega arith));
-    })
-    (λ wire. omega arith),
-    found-last start elements (Clocked cell stage pins next) next stage (laid.fresh next (omega arith)) (ap (λ here. cond here (Some stage) None) (same-found next)))
+IsLaid-cell phases first start elements next rest cell stage pins laid each arrive = (
+  IsLaid-step phases first start elements next (λ wire. times wire pins + rest wire) (λ wire. once wire next + rest wire) (Clocked cell stage pins next) 1 laid
+      (record {
+        in_time = arrive;
+        pins = each;
+        makes = refl;
+        fresh = λ wire high. ap (λ here. cond here (Some stage) None) (nat_eq-other wire next (λ e. omega arith));
+      })
+      (λ wire. omega arith),
+  found-last start elements (Clocked cell stage pins next) next stage (laid.fresh next (omega arith)) (ap (λ here. cond here (Some stage) None) (same-found next)),
+)
 
 -- a splitter takes a wire that waits, and makes the next two, which wait
 pub IsLaid-split : (phases first : ℕ) (start : Wires ℕ) (elements : List Element) (next : ℕ) (rest : ℕ → ℕ) (from stage : ℕ) →
@@ -123,17 +124,18 @@ IsLaid-split phases first start elements next rest from stage laid h =
     let made = after start elements in
     let s = carried 0 made from in
     let hands : s ≡ stage = ap (λ (o : Option ℕ). unwrap_or o 0) h in
-    let succ : next + 1 ≡ suc next = omega arith in
-    (IsLaid-step phases first start elements next (λ wire. once wire from + rest wire) (λ wire. once wire next + (once wire (next + 1) + rest wire)) (Split from next (next + 1)) 2 laid
-    (record {
-      in_time = (stage, h);
-      pins = tt;
-      makes = ap (λ n. next ∷ (n ∷ [])) succ;
-      fresh = λ wire high. ap (λ here. cond here (Some s) (cond (nat_eq wire (next + 1)) (Some s) None)) (nat_eq-other wire next (λ e. omega arith)) ∙ ap (λ here. cond here (Some s) None) (nat_eq-other wire (next + 1) (λ e. omega arith));
-    })
-    (λ wire. let e : once wire (suc next) ≡ once wire (next + 1) = ap (once wire) (sym succ) in omega (arith, e)),
-    found-last start elements (Split from next (next + 1)) next stage (laid.fresh next (omega arith)) (ap (λ here. cond here (Some s) (cond (nat_eq next (next + 1)) (Some s) None)) (same-found next) ∙ ap Some hands),
-    found-last start elements (Split from next (next + 1)) (next + 1) stage (laid.fresh (next + 1) (omega arith)) (ap (λ here. cond here (Some s) (cond (nat_eq (next + 1) (next + 1)) (Some s) None)) (nat_eq-other (next + 1) next (λ e. omega arith)) ∙ ap (λ here. cond here (Some s) None) (same-found (next + 1)) ∙ ap Some hands))
+    let succ : next + 1 ≡ suc next = omega arith in (
+      IsLaid-step phases first start elements next (λ wire. once wire from + rest wire) (λ wire. once wire next + (once wire (next + 1) + rest wire)) (Split from next (next + 1)) 2 laid
+          (record {
+            in_time = (stage, h);
+            pins = tt;
+            makes = ap (λ n. next ∷ (n ∷ [])) succ;
+            fresh = λ wire high. ap (λ here. cond here (Some s) (cond (nat_eq wire (next + 1)) (Some s) None)) (nat_eq-other wire next (λ e. omega arith)) ∙ ap (λ here. cond here (Some s) None) (nat_eq-other wire (next + 1) (λ e. omega arith));
+          })
+          (λ wire. let e : once wire (suc next) ≡ once wire (next + 1) = ap (once wire) (sym succ) in omega (arith, e)),
+      found-last start elements (Split from next (next + 1)) next stage (laid.fresh next (omega arith)) (ap (λ here. cond here (Some s) (cond (nat_eq next (next + 1)) (Some s) None)) (same-found next) ∙ ap Some hands),
+      found-last start elements (Split from next (next + 1)) (next + 1) stage (laid.fresh (next + 1) (omega arith)) (ap (λ here. cond here (Some s) (cond (nat_eq (next + 1) (next + 1)) (Some s) None)) (nat_eq-other (next + 1) next (λ e. omega arith)) ∙ ap (λ here. cond here (Some s) None) (same-found (next + 1)) ∙ ap Some hands),
+    )
 
 -- What a spread leaves: the wires of the targets wait in place of the one that is spread, all at its stage. By induction
 -- over the tree: behind its first splitter the left wire is spread while the right one waits, and then the right one.
@@ -180,9 +182,8 @@ IsSpread-tree (suc depth) (suc (suc more)) phases first start elements next rest
     append_assoc lines left_lines right_lines ∙ append_assoc elements (Split from next (next + 1) ∷ []) (left_lines ++ right_lines) in
     let whole : IsSpread phases first start ((lines ++ left_lines) ++ right_lines) ((next + 2 * left) + 2 * (right - 1)) rest stage (left_wires ++ right_wires) = record {
       laid = IsLaid-waits phases first start ((lines ++ left_lines) ++ right_lines) ((next + 2 * left) + 2 * (right - 1)) (λ wire. times wire right_wires + (times wire left_wires + rest wire)) (λ wire. times wire (left_wires ++ right_wires) + rest wire)
-        (λ wire. let e = times-append wire left_wires right_wires in omega (arith, e)) rights.laid;
+          (λ wire. let e = times-append wire left_wires right_wires in omega (arith, e)) rights.laid;
       stages = AreFound-append (after start ((lines ++ left_lines) ++ right_lines)) stage left_wires right_wires (AreFound-step start (lines ++ left_lines) right_lines stage left_wires lefts.stages) rights.stages;
     } in
     subst (λ (es : List Element). IsSpread phases first start es (next + 2 * (suc (suc more) - 1)) rest stage (left_wires ++ right_wires)) all_lines
     (subst (λ n. IsSpread phases first start ((lines ++ left_lines) ++ right_lines) n rest stage (left_wires ++ right_wires)) f whole)
-

@@ -75,7 +75,7 @@ tap_count-some needs driver pin [] h = absurd (true≢false (sym h))
 tap_count-some needs driver pin (other ∷ drivers) h = by (same_driver driver other) h (tap_count-some needs driver (pin + 1) drivers)
   where
     by : (same : Bool) → (same || list_any (same_driver driver) drivers) ≡ true → (list_any (same_driver driver) drivers ≡ true → 1 ≤ tap_count needs driver (pin + 1) drivers) →
-      1 ≤ max (cond same (get_or needs pin 0 + 1) 0) (tap_count needs driver (pin + 1) drivers)
+        1 ≤ max (cond same (get_or needs pin 0 + 1) 0) (tap_count needs driver (pin + 1) drivers)
     by true e rest = omega arith
     by false e rest = let r = rest e in omega arith
 
@@ -157,18 +157,18 @@ Stands-gate chained first start used rest gate pin row layout some here all each
     let taken_by : wires ≡ take (length mine) (drop pin layout.taken) = pin_wires-take layout.taken pin mine (omega (arith, joined, room)) in
     let next = pin + length mine in
     let cell = IsLaid-cell n first start layout.elements layout.next (λ w. times w (held marks chained.needs layout.taken next rest)) row.cell user wires
-      (IsLaid-waits n first start layout.elements layout.next (λ w. 0 + times w (held marks chained.needs layout.taken pin (mine ++ rest))) (λ w. times w wires + times w (held marks chained.needs layout.taken next rest))
-        (λ w. let e = ap (times w) (held-reached (before_gate gate) chained.needs layout.taken pin mine rest reached) in
-          let f = times-append w wires (held marks chained.needs layout.taken next rest) in omega (arith, e, f)) h.laid)
-      (length-pin_wires layout.taken pin mine ∙ each)
-      (ArriveInTime-pins chained (after start layout.elements) (before_gate gate) layout.taken user pin mine rest reached timed h.staged) in
+    (IsLaid-waits n first start layout.elements layout.next (λ w. 0 + times w (held marks chained.needs layout.taken pin (mine ++ rest))) (λ w. times w wires + times w (held marks chained.needs layout.taken next rest))
+    (λ w. let e = ap (times w) (held-reached (before_gate gate) chained.needs layout.taken pin mine rest reached) in
+    let f = times-append w wires (held marks chained.needs layout.taken next rest) in omega (arith, e, f)) h.laid)
+    (length-pin_wires layout.taken pin mine ∙ each)
+    (ArriveInTime-pins chained (after start layout.elements) (before_gate gate) layout.taken user pin mine rest reached timed h.staged) in
     let line = Clocked row.cell user wires layout.next in
     let begun : GoesOn n first start (tap_stage chained) chained.needs next rest marks (λ w. 0) (with_cell row.cell user wires layout) layout.next user = record {
       stands = record {
         laid = IsLaid-waits n first start (layout.elements ++ line ∷ []) (layout.next + 1) (λ w. once w layout.next + times w (held marks chained.needs layout.taken next rest))
-          (λ w. (once w layout.next + 0) + times w (held marks chained.needs layout.taken next rest)) (λ w. omega arith) cell.0;
+            (λ w. (once w layout.next + 0) + times w (held marks chained.needs layout.taken next rest)) (λ w. omega arith) cell.0;
         staged = AreStaged-step start layout.elements (line ∷ []) (tap_stage chained) marks chained.needs layout.taken next rest
-          (AreStaged-behind (after start layout.elements) (tap_stage chained) marks chained.needs layout.taken pin mine rest h.staged);
+            (AreStaged-behind (after start layout.elements) (tap_stage chained) marks chained.needs layout.taken pin mine rest h.staged);
         room = omega (arith, joined, room);
       };
       source = cell.1;
@@ -176,14 +176,14 @@ Stands-gate chained first start used rest gate pin row layout some here all each
     let at : next ≡ length (used ++ mine) = omega (arith, here, length-append used mine) in
     let tapped_here : 1 ≤ tap_count chained.needs (Gate gate) 0 ((used ++ mine) ++ rest) = subst (λ (ds : List Driver). 1 ≤ tap_count chained.needs (Gate gate) 0 ds) all tapped in
     let done = Stands-chain n first start (tap_stage chained) chained.needs (used ++ mine) rest (before_gate gate) (λ w. 0) (Gate gate) user layout.next (with_cell row.cell user wires layout)
-      some none (before_gate-late gate) (tap_stage-gate chained gate) tapped_here
-      (subst (λ p. GoesOn n first start (tap_stage chained) chained.needs p rest marks (λ w. 0) (with_cell row.cell user wires layout) layout.next user) at begun) in
+    some none (before_gate-late gate) (tap_stage-gate chained gate) tapped_here
+    (subst (λ p. GoesOn n first start (tap_stage chained) chained.needs p rest marks (λ w. 0) (with_cell row.cell user wires layout) layout.next user) at begun) in
     let whole : Stands n first start (tap_stage chained) chained.needs next rest (by_driver (and_driver (before_gate gate) (Gate gate))) (λ w. 0) (with_chain n user layout.next (taps_at chained.needs (pin_drivers chained.gates) (Gate gate)) (with_cell row.cell user (take (length mine) (drop pin layout.taken)) layout)) =
-      subst (λ (ws : List ℕ). Stands n first start (tap_stage chained) chained.needs next rest (by_driver (and_driver (before_gate gate) (Gate gate))) (λ w. 0) (with_chain n user layout.next (taps_at chained.needs (pin_drivers chained.gates) (Gate gate)) (with_cell row.cell user ws layout))) taken_by
-      (subst (λ (ds : List Driver). Stands n first start (tap_stage chained) chained.needs next rest (by_driver (and_driver (before_gate gate) (Gate gate))) (λ w. 0) (with_chain n user layout.next (taps_at chained.needs ds (Gate gate)) (with_cell row.cell user wires layout))) (sym all)
-      (subst (λ p. Stands n first start (tap_stage chained) chained.needs p rest (by_driver (and_driver (before_gate gate) (Gate gate))) (λ w. 0) (with_chain n user layout.next (taps_at chained.needs ((used ++ mine) ++ rest) (Gate gate)) (with_cell row.cell user wires layout))) (sym at) done)) in
+    subst (λ (ws : List ℕ). Stands n first start (tap_stage chained) chained.needs next rest (by_driver (and_driver (before_gate gate) (Gate gate))) (λ w. 0) (with_chain n user layout.next (taps_at chained.needs (pin_drivers chained.gates) (Gate gate)) (with_cell row.cell user ws layout))) taken_by
+    (subst (λ (ds : List Driver). Stands n first start (tap_stage chained) chained.needs next rest (by_driver (and_driver (before_gate gate) (Gate gate))) (λ w. 0) (with_chain n user layout.next (taps_at chained.needs ds (Gate gate)) (with_cell row.cell user wires layout))) (sym all)
+    (subst (λ p. Stands n first start (tap_stage chained) chained.needs p rest (by_driver (and_driver (before_gate gate) (Gate gate))) (λ w. 0) (with_chain n user layout.next (taps_at chained.needs ((used ++ mine) ++ rest) (Gate gate)) (with_cell row.cell user wires layout))) (sym at) done)) in
     Stands-agree n first start (tap_stage chained) chained.needs next rest (by_driver (and_driver (before_gate gate) (Gate gate))) (by_driver (before_gate (gate + 1))) (λ w. 0) (with_gate chained gate pin row layout)
-      (Agree-all (by_driver (and_driver (before_gate gate) (Gate gate))) (by_driver (before_gate (gate + 1))) chained.needs next rest (λ driver need. before_gate-next gate driver)) whole
+    (Agree-all (by_driver (and_driver (before_gate gate) (Gate gate))) (by_driver (before_gate (gate + 1))) chained.needs next rest (λ driver need. before_gate-next gate driver)) whole
 
 -- the rows that are left stand behind so many gates
 abbrev pub AreGatesFrom : ℕ → ℕ → List GateRow → Type 0
@@ -212,15 +212,14 @@ Stands-gates chained first start used rest gate pin (row ∷ rows) layout some h
     let split : (mine ++ later) ++ rest ≡ mine ++ (later ++ rest) = append_assoc mine later rest in
     let whole : pin_drivers chained.gates ≡ (used ++ mine) ++ (later ++ rest) = all ∙ ap (λ (l : List Driver). used ++ l) split ∙ sym (append_assoc used mine (later ++ rest)) in
     let mine_none : (k : ℕ) → gate ≤ k → DrivesNone (Gate k) (used ++ mine) =
-      λ k low. DrivesNone-append (Gate k) used mine (none k low) (DrivesNone-there chained.gates.inputs gate k mine low gates.0.drivers) in
+    λ k low. DrivesNone-append (Gate k) used mine (none k low) (DrivesNone-there chained.gates.inputs gate k mine low gates.0.drivers) in
     let step = Stands-gate chained first start used (later ++ rest) gate pin row layout some here whole gates.0.arity
-      (before_gate-there chained.gates.inputs gate mine gates.0.drivers) (mine_none gate (omega arith)) timed.0 (tapped gate (omega arith) (omega arith))
-      (subst (λ (l : List Driver). Stands chained.n first start (tap_stage chained) chained.needs pin l (by_driver (before_gate gate)) (λ w. 0) layout) split h) in
+    (before_gate-there chained.gates.inputs gate mine gates.0.drivers) (mine_none gate (omega arith)) timed.0 (tapped gate (omega arith) (omega arith))
+    (subst (λ (l : List Driver). Stands chained.n first start (tap_stage chained) chained.needs pin l (by_driver (before_gate gate)) (λ w. 0) layout) split h) in
     let done = Stands-gates chained first start (used ++ mine) rest (gate + 1) (pin + length mine) rows (with_gate chained gate pin row layout) some (omega (arith, here, length-append used mine)) whole gates.1
-      (λ k low. mine_none k (omega arith)) (λ k low high. tapped k (omega arith) (omega arith)) timed.1 step in
+    (λ k low. mine_none k (omega arith)) (λ k low high. tapped k (omega arith) (omega arith)) timed.1 step in
     let p : (pin + length mine) + gate_pins rows ≡ pin + (length mine + gate_pins rows) = omega arith in
     let g : (gate + 1) + length rows ≡ gate + suc (length rows) = omega arith in
     let lay = with_gates chained (gate + 1) (pin + length mine) rows (with_gate chained gate pin row layout) in
     subst (λ k. Stands chained.n first start (tap_stage chained) chained.needs (pin + (length mine + gate_pins rows)) rest (by_driver (before_gate k)) (λ w. 0) lay) g
     (subst (λ k. Stands chained.n first start (tap_stage chained) chained.needs k rest (by_driver (before_gate ((gate + 1) + length rows))) (λ w. 0) lay) p done)
-

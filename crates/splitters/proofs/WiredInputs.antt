@@ -44,12 +44,12 @@ input_wires-run chained input next zero = refl
 input_wires-run chained input next (suc more) = by (is_used chained (Input input)) (λ from. input_wires-run chained (input + 1) from more)
   where
     by : (used : Bool) → ((from : ℕ) → flat_map option_to_list (input_wires chained (input + 1) from more) ≡ run from (wire_count (input_wires chained (input + 1) from more))) →
-      flat_map option_to_list (cond used (Some next) None ∷ input_wires chained (input + 1) (next + cond used 1 0) more)
-      ≡ run next (wire_count (cond used (Some next) None ∷ input_wires chained (input + 1) (next + cond used 1 0) more))
+        flat_map option_to_list (cond used (Some next) None ∷ input_wires chained (input + 1) (next + cond used 1 0) more)
+        ≡ run next (wire_count (cond used (Some next) None ∷ input_wires chained (input + 1) (next + cond used 1 0) more))
     by true rest =
-      let e : next + 1 ≡ suc next = omega arith in
-      let f : wire_count (input_wires chained (input + 1) (next + 1) more) + 1 ≡ suc (wire_count (input_wires chained (input + 1) (next + 1) more)) = omega arith in
-      ap (λ ws. next ∷ ws) (rest (next + 1) ∙ ap (λ k. run k (wire_count (input_wires chained (input + 1) (next + 1) more))) e) ∙ ap (run next) (sym f)
+        let e : next + 1 ≡ suc next = omega arith in
+        let f : wire_count (input_wires chained (input + 1) (next + 1) more) + 1 ≡ suc (wire_count (input_wires chained (input + 1) (next + 1) more)) = omega arith in
+        ap (λ ws. next ∷ ws) (rest (next + 1) ∙ ap (λ k. run k (wire_count (input_wires chained (input + 1) (next + 1) more))) e) ∙ ap (run next) (sym f)
     by false rest = let e : next + 0 ≡ next = omega arith in rest (next + 0) ∙ ap (λ k. run k (wire_count (input_wires chained (input + 1) (next + 0) more))) e
 
 pub length-input_wires : (chained : Chained) (input next more : ℕ) → length (input_wires chained input next more) ≡ more
@@ -63,7 +63,7 @@ found-input (None ∷ wires) place wire h = found-input wires (place + 1) wire h
 found-input (Some one ∷ wires) place wire h = by (nat_eq wire one) refl (found-input wires (place + 1) wire)
   where
     by : (here : Bool) → nat_eq wire one ≡ here → (1 ≤ times wire (flat_map option_to_list wires) → found (made_inputs input_stage (place + 1) wires) wire ≡ Some 0) →
-      cond here (Some 0) (found (made_inputs input_stage (place + 1) wires) wire) ≡ Some 0
+        cond here (Some 0) (found (made_inputs input_stage (place + 1) wires) wire) ≡ Some 0
     by true e rest = refl
     by false e rest = let o = once-other wire one e in rest (omega (arith, o, h))
 
@@ -73,7 +73,7 @@ found-no_input (None ∷ wires) place wire h = found-no_input wires (place + 1) 
 found-no_input (Some one ∷ wires) place wire h = by (nat_eq wire one) refl (found-no_input wires (place + 1) wire)
   where
     by : (here : Bool) → nat_eq wire one ≡ here → (times wire (flat_map option_to_list wires) ≡ 0 → found (made_inputs input_stage (place + 1) wires) wire ≡ None) →
-      cond here (Some 0) (found (made_inputs input_stage (place + 1) wires) wire) ≡ None
+        cond here (Some 0) (found (made_inputs input_stage (place + 1) wires) wire) ≡ None
     by true e rest = let o = once-same wire one e in absurd (omega (arith, o, h))
     by false e rest = let o = once-other wire one e in rest (omega (arith, o, h))
 
@@ -116,6 +116,7 @@ Agree-unused needs reached driver pin (other ∷ drivers) none =
     by : (same any : Bool) → (same || any) ≡ false → (same ≡ false) × (any ≡ false)
     by true any e = absurd (true≢false e)
     by false any e = (refl, e)
+
     or_none : (b : Bool) → (b || false) ≡ b
     or_none true = refl
     or_none false = refl
@@ -136,27 +137,27 @@ Stands-inputs chained first start input next (suc more) layout some are h =
   where
     drivers : List Driver
     drivers = pin_drivers chained.gates
+
     by : (used : Bool) → is_used chained (Input input) ≡ used →
-      AreFound start 0 (flat_map option_to_list (cond used (Some next) None ∷ input_wires chained (input + 1) (next + cond used 1 0) more)) →
-      Stands chained.n first start (tap_stage chained) chained.needs 0 (pin_drivers chained.gates) (by_driver (before_input input)) (λ w. times w (flat_map option_to_list (cond used (Some next) None ∷ input_wires chained (input + 1) (next + cond used 1 0) more))) layout →
-      ((from : ℕ) (lay : Layout) → AreFound start 0 (flat_map option_to_list (input_wires chained (input + 1) from more)) →
-      Stands chained.n first start (tap_stage chained) chained.needs 0 (pin_drivers chained.gates) (by_driver (before_input (input + 1))) (λ w. times w (flat_map option_to_list (input_wires chained (input + 1) from more))) lay →
-      Stands chained.n first start (tap_stage chained) chained.needs 0 (pin_drivers chained.gates) (by_driver (before_input ((input + 1) + more))) (λ w. 0) (with_inputs chained (input + 1) (input_wires chained (input + 1) from more) lay)) →
-      Stands chained.n first start (tap_stage chained) chained.needs 0 (pin_drivers chained.gates) (by_driver (before_input ((input + 1) + more))) (λ w. 0) (with_inputs chained input (cond used (Some next) None ∷ input_wires chained (input + 1) (next + cond used 1 0) more) layout)
+        AreFound start 0 (flat_map option_to_list (cond used (Some next) None ∷ input_wires chained (input + 1) (next + cond used 1 0) more)) →
+        Stands chained.n first start (tap_stage chained) chained.needs 0 (pin_drivers chained.gates) (by_driver (before_input input)) (λ w. times w (flat_map option_to_list (cond used (Some next) None ∷ input_wires chained (input + 1) (next + cond used 1 0) more))) layout →
+        ((from : ℕ) (lay : Layout) → AreFound start 0 (flat_map option_to_list (input_wires chained (input + 1) from more)) →
+        Stands chained.n first start (tap_stage chained) chained.needs 0 (pin_drivers chained.gates) (by_driver (before_input (input + 1))) (λ w. times w (flat_map option_to_list (input_wires chained (input + 1) from more))) lay →
+        Stands chained.n first start (tap_stage chained) chained.needs 0 (pin_drivers chained.gates) (by_driver (before_input ((input + 1) + more))) (λ w. 0) (with_inputs chained (input + 1) (input_wires chained (input + 1) from more) lay)) →
+        Stands chained.n first start (tap_stage chained) chained.needs 0 (pin_drivers chained.gates) (by_driver (before_input ((input + 1) + more))) (λ w. 0) (with_inputs chained input (cond used (Some next) None ∷ input_wires chained (input + 1) (next + cond used 1 0) more) layout)
     by true used are h rest =
-      let waits : ℕ → ℕ = λ w. times w (flat_map option_to_list (input_wires chained (input + 1) (next + 1) more)) in
-      let done = Stands-chain chained.n first start (tap_stage chained) chained.needs [] (pin_drivers chained.gates) (before_input input) waits (Input input) 0 next layout some tt
+        let waits : ℕ → ℕ = λ w. times w (flat_map option_to_list (input_wires chained (input + 1) (next + 1) more)) in
+        let done = Stands-chain chained.n first start (tap_stage chained) chained.needs [] (pin_drivers chained.gates) (before_input input) waits (Input input) 0 next layout some tt
         (before_input-late input) (tap_stage-input chained input) (tap_count-some chained.needs (Input input) 0 (pin_drivers chained.gates) used)
         (record { stands = h; source = after-stays start layout.elements next 0 are.0 }) in
-      rest (next + 1) (with_chain chained.n 0 next (taps_of chained (Input input)) layout) are.1
-      (Stands-agree chained.n first start (tap_stage chained) chained.needs 0 (pin_drivers chained.gates) (by_driver (and_driver (before_input input) (Input input))) (by_driver (before_input (input + 1))) waits
+        rest (next + 1) (with_chain chained.n 0 next (taps_of chained (Input input)) layout) are.1
+        (Stands-agree chained.n first start (tap_stage chained) chained.needs 0 (pin_drivers chained.gates) (by_driver (and_driver (before_input input) (Input input))) (by_driver (before_input (input + 1))) waits
         (with_chain chained.n 0 next (taps_of chained (Input input)) layout)
         (Agree-all (by_driver (and_driver (before_input input) (Input input))) (by_driver (before_input (input + 1))) chained.needs 0 (pin_drivers chained.gates) (λ driver need. before_input-next input driver)) done)
     by false unused are h rest =
-      let waits : ℕ → ℕ = λ w. times w (flat_map option_to_list (input_wires chained (input + 1) (next + 0) more)) in
-      rest (next + 0) layout are
-      (Stands-agree chained.n first start (tap_stage chained) chained.needs 0 (pin_drivers chained.gates) (by_driver (and_driver (before_input input) (Input input))) (by_driver (before_input (input + 1))) waits layout
+        let waits : ℕ → ℕ = λ w. times w (flat_map option_to_list (input_wires chained (input + 1) (next + 0) more)) in
+        rest (next + 0) layout are
+        (Stands-agree chained.n first start (tap_stage chained) chained.needs 0 (pin_drivers chained.gates) (by_driver (and_driver (before_input input) (Input input))) (by_driver (before_input (input + 1))) waits layout
         (Agree-all (by_driver (and_driver (before_input input) (Input input))) (by_driver (before_input (input + 1))) chained.needs 0 (pin_drivers chained.gates) (λ driver need. before_input-next input driver))
         (Stands-agree chained.n first start (tap_stage chained) chained.needs 0 (pin_drivers chained.gates) (by_driver (before_input input)) (by_driver (and_driver (before_input input) (Input input))) waits layout
         (Agree-unused chained.needs (before_input input) (Input input) 0 (pin_drivers chained.gates) unused) h))
-

@@ -77,7 +77,7 @@ get_or-taken needs driver need pin (other ∷ drivers) wires taken p early =
     by (same_driver driver other && (get_or needs pin 0 == need)) wires (λ ws old. get_or-taken needs driver need (pin + 1) drivers ws old p (omega arith))
   where
     by : (here : Bool) (wires : List ℕ) → ((ws old : List ℕ) → get_or (take_wires (takers needs driver need (pin + 1) drivers) ws old) p 0 ≡ get_or old p 0) →
-      get_or (take_wires (with_pin here pin (takers needs driver need (pin + 1) drivers)) wires taken) p 0 ≡ get_or taken p 0
+        get_or (take_wires (with_pin here pin (takers needs driver need (pin + 1) drivers)) wires taken) p 0 ≡ get_or taken p 0
     by false wires rest = rest wires taken
     by true [] rest = refl
     by true (wire ∷ wires) rest = rest wires (set taken pin wire) ∙ get_or-set_other taken pin p wire 0 (λ e. omega arith)
@@ -103,23 +103,23 @@ times-held marks needs driver need pin (other ∷ drivers) wires taken w new eac
     (λ ws old few same. times-held marks needs driver need (pin + 1) drivers ws old w new few (omega (arith, same)))
   where
     by : (here before : Bool) (wires : List ℕ) → (here ≡ true → before ≡ false) → length wires ≡ length (with_pin here pin (takers needs driver need (pin + 1) drivers)) →
-      ((ws old : List ℕ) → length ws ≡ length (takers needs driver need (pin + 1) drivers) → length old ≡ length taken →
-      times w (held (and_tap marks driver need) needs (take_wires (takers needs driver need (pin + 1) drivers) ws old) (pin + 1) drivers) ≡ times w ws + times w (held marks needs old (pin + 1) drivers)) →
-      times w (with_pin (before || here) (get_or (take_wires (with_pin here pin (takers needs driver need (pin + 1) drivers)) wires taken) pin 0) (held (and_tap marks driver need) needs (take_wires (with_pin here pin (takers needs driver need (pin + 1) drivers)) wires taken) (pin + 1) drivers))
-      ≡ times w wires + times w (with_pin before (get_or taken pin 0) (held marks needs taken (pin + 1) drivers))
+        ((ws old : List ℕ) → length ws ≡ length (takers needs driver need (pin + 1) drivers) → length old ≡ length taken →
+        times w (held (and_tap marks driver need) needs (take_wires (takers needs driver need (pin + 1) drivers) ws old) (pin + 1) drivers) ≡ times w ws + times w (held marks needs old (pin + 1) drivers)) →
+        times w (with_pin (before || here) (get_or (take_wires (with_pin here pin (takers needs driver need (pin + 1) drivers)) wires taken) pin 0) (held (and_tap marks driver need) needs (take_wires (with_pin here pin (takers needs driver need (pin + 1) drivers)) wires taken) (pin + 1) drivers))
+        ≡ times w wires + times w (with_pin before (get_or taken pin 0) (held marks needs taken (pin + 1) drivers))
     by false true wires fresh each go =
-      let rest = go wires taken each refl in
-      let here : once w (get_or (take_wires (takers needs driver need (pin + 1) drivers) wires taken) pin 0) ≡ once w (get_or taken pin 0) = ap (once w) (get_or-taken needs driver need (pin + 1) drivers wires taken pin (omega arith)) in
-      omega (arith, rest, here)
+        let rest = go wires taken each refl in
+        let here : once w (get_or (take_wires (takers needs driver need (pin + 1) drivers) wires taken) pin 0) ≡ once w (get_or taken pin 0) = ap (once w) (get_or-taken needs driver need (pin + 1) drivers wires taken pin (omega arith)) in
+        omega (arith, rest, here)
     by false false wires fresh each go = go wires taken each refl
     by true true wires fresh each go = let e : true ≡ false = fresh refl in absurd (true≢false e)
     by true false [] fresh each go = absurd (omega arith)
     by true false (wire ∷ wires) fresh each go =
-      let rest = go wires (set taken pin wire) (omega arith) (length-set taken pin wire) in
-      let here : once w (get_or (take_wires (takers needs driver need (pin + 1) drivers) wires (set taken pin wire)) pin 0) ≡ once w wire =
-      ap (once w) (get_or-taken needs driver need (pin + 1) drivers wires (set taken pin wire) pin (omega arith) ∙ get_or-set_same taken pin wire 0 (omega arith)) in
-      let kept : times w (held marks needs (set taken pin wire) (pin + 1) drivers) ≡ times w (held marks needs taken (pin + 1) drivers) = ap (times w) (held-set marks needs taken pin wire (pin + 1) drivers (omega arith)) in
-      omega (arith, rest, here, kept)
+        let rest = go wires (set taken pin wire) (omega arith) (length-set taken pin wire) in
+        let here : once w (get_or (take_wires (takers needs driver need (pin + 1) drivers) wires (set taken pin wire)) pin 0) ≡ once w wire =
+        ap (once w) (get_or-taken needs driver need (pin + 1) drivers wires (set taken pin wire) pin (omega arith) ∙ get_or-set_same taken pin wire 0 (omega arith)) in
+        let kept : times w (held marks needs (set taken pin wire) (pin + 1) drivers) ≡ times w (held marks needs taken (pin + 1) drivers) = ap (times w) (held-set marks needs taken pin wire (pin + 1) drivers (omega arith)) in
+        omega (arith, rest, here, kept)
 
 -- And each of them has the stage of the tap, where the spread wires have it.
 pub AreStaged-held : (made : Wires ℕ) (stage : Driver → ℕ → ℕ) (marks : Marks) (needs : List ℕ) (driver : Driver) (need s pin : ℕ) (drivers : List Driver) (wires taken : List ℕ) →
@@ -137,20 +137,23 @@ AreStaged-held made stage marks needs driver need s pin (other ∷ drivers) wire
     kept : (before : Bool) → (before || false) ≡ true → before ≡ true
     kept true e = refl
     kept false e = e
+
     by : (here before : Bool) (wires : List ℕ) → (here ≡ true → stage other (get_or needs pin 0) ≡ s) → length wires ≡ length (with_pin here pin (takers needs driver need (pin + 1) drivers)) →
-      AreFound made s wires → (before ≡ true → found made (get_or taken pin 0) ≡ Some (stage other (get_or needs pin 0))) →
-      ((ws old : List ℕ) → length ws ≡ length (takers needs driver need (pin + 1) drivers) → length old ≡ length taken → AreFound made s ws → AreStaged made stage marks needs old (pin + 1) drivers →
-      AreStaged made stage (and_tap marks driver need) needs (take_wires (takers needs driver need (pin + 1) drivers) ws old) (pin + 1) drivers) →
-      ((before || here) ≡ true → found made (get_or (take_wires (with_pin here pin (takers needs driver need (pin + 1) drivers)) wires taken) pin 0) ≡ Some (stage other (get_or needs pin 0)))
-      × AreStaged made stage (and_tap marks driver need) needs (take_wires (with_pin here pin (takers needs driver need (pin + 1) drivers)) wires taken) (pin + 1) drivers
-    by false before wires staged each are old go =
-      (λ e. ap (found made) (get_or-taken needs driver need (pin + 1) drivers wires taken pin (omega arith)) ∙ old (kept before e),
-      go wires taken each refl are h.1)
+        AreFound made s wires → (before ≡ true → found made (get_or taken pin 0) ≡ Some (stage other (get_or needs pin 0))) →
+        ((ws old : List ℕ) → length ws ≡ length (takers needs driver need (pin + 1) drivers) → length old ≡ length taken → AreFound made s ws → AreStaged made stage marks needs old (pin + 1) drivers →
+        AreStaged made stage (and_tap marks driver need) needs (take_wires (takers needs driver need (pin + 1) drivers) ws old) (pin + 1) drivers) →
+        ((before || here) ≡ true → found made (get_or (take_wires (with_pin here pin (takers needs driver need (pin + 1) drivers)) wires taken) pin 0) ≡ Some (stage other (get_or needs pin 0)))
+        × AreStaged made stage (and_tap marks driver need) needs (take_wires (with_pin here pin (takers needs driver need (pin + 1) drivers)) wires taken) (pin + 1) drivers
+    by false before wires staged each are old go = (
+      λ e. ap (found made) (get_or-taken needs driver need (pin + 1) drivers wires taken pin (omega arith)) ∙ old (kept before e),
+      go wires taken each refl are h.1,
+    )
     by true before [] staged each are old go = absurd (omega arith)
-    by true before (wire ∷ wires) staged each are old go =
-      (λ e. ap (found made) (get_or-taken needs driver need (pin + 1) drivers wires (set taken pin wire) pin (omega arith) ∙ get_or-set_same taken pin wire 0 (omega arith)) ∙ are.0 ∙ ap Some (sym (staged refl)),
+    by true before (wire ∷ wires) staged each are old go = (
+      λ e. ap (found made) (get_or-taken needs driver need (pin + 1) drivers wires (set taken pin wire) pin (omega arith) ∙ get_or-set_same taken pin wire 0 (omega arith)) ∙ are.0 ∙ ap Some (sym (staged refl)),
       go wires (set taken pin wire) (omega arith) (length-set taken pin wire) are.1
-      (AreStaged-set made stage marks needs taken pin wire (pin + 1) drivers (omega arith) h.1))
+          (AreStaged-set made stage marks needs taken pin wire (pin + 1) drivers (omega arith) h.1),
+    )
 
 pub length-taken : (pins wires taken : List ℕ) → length (take_wires pins wires taken) ≡ length taken
 length-taken [] wires taken = refl

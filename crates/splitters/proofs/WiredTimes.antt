@@ -128,11 +128,12 @@ pins-timed chained net phases epochs chains before after vertex pin user (driver
     ∙ get_or-pins epochs net phases before rest one in
     let timed = need-in_time n (epoch_at epochs vertex) (vertex_phase phases vertex) (epoch_at epochs (vertex_of driver)) (driver_phase phases driver) chains.some low (driver-below chained net phases epochs chains driver) balance in
     let stage = driver-stage chained net phases epochs chains driver split.0 in
-    let next : pin + 1 ≡ length (before ++ one ∷ []) = omega (arith, here, length-append before (one ∷ [])) in
-    (subst (λ u. IsInTime n (driver_stage chained driver + n * get_or chained.needs pin 0) u) (sym at)
-    (subst (λ s. IsInTime n (s + n * get_or chained.needs pin 0) (stage_of n (epoch_at epochs vertex) (vertex_phase phases vertex))) (sym stage)
-    (subst (λ k. IsInTime n (stage_of n (epoch_at epochs (vertex_of driver)) (driver_phase phases driver) + n * k) (stage_of n (epoch_at epochs vertex) (vertex_phase phases vertex))) (sym need) timed)),
-    pins-timed chained net phases epochs chains (before ++ one ∷ []) after vertex (pin + 1) user drivers (all ∙ sym (append_assoc before (one ∷ []) rest)) next at low split.1)
+    let next : pin + 1 ≡ length (before ++ one ∷ []) = omega (arith, here, length-append before (one ∷ [])) in (
+      subst (λ u. IsInTime n (driver_stage chained driver + n * get_or chained.needs pin 0) u) (sym at)
+          (subst (λ s. IsInTime n (s + n * get_or chained.needs pin 0) (stage_of n (epoch_at epochs vertex) (vertex_phase phases vertex))) (sym stage)
+          (subst (λ k. IsInTime n (stage_of n (epoch_at epochs (vertex_of driver)) (driver_phase phases driver) + n * k) (stage_of n (epoch_at epochs vertex) (vertex_phase phases vertex))) (sym need) timed)),
+      pins-timed chained net phases epochs chains (before ++ one ∷ []) after vertex (pin + 1) user drivers (all ∙ sym (append_assoc before (one ∷ []) rest)) next at low split.1,
+    )
   where
     get_or-pins : (epochs : Epochs) (net : GateNet) (phases : List ℕ) (before after : List Use) (x : Use) → get_or (map (need_of epochs) (map (pin_of net phases) (before ++ x ∷ after))) (length before) 0 ≡ need_of epochs (pin_of net phases x)
     get_or-pins epochs net phases [] after x = refl
@@ -152,12 +153,13 @@ gates-timed chained net phases epochs chains before after gate pin (row ∷ rows
     let at : get_or chained.stages gate 0 ≡ stage_of chained.n (epoch_at epochs (suc gate)) (vertex_phase phases (suc gate)) =
     ap (λ (s : List ℕ). get_or s gate 0) chains.stages ∙ get_or-stages chained.n epochs.gates phases gate epochs.sink (omega (arith, e, each)) (omega (arith, p, each)) in
     let next : gate + 1 ≡ suc gate = omega arith in
-    let many = length-map row.pins (use_by (suc gate)) in
-    (pins-timed chained net phases epochs chains before (later ++ after) (suc gate) pin (get_or chained.stages gate 0) row.pins whole here at (get_or-below chained.n phases gate chains.some chains.below)
-      (below-there net.inputs gate (length net.gates) row.pins (omega (arith, each)) gates.0.drivers),
-    gates-timed chained net phases epochs chains (before ++ mine) after (gate + 1) (pin + length row.pins) rows
-      (whole ∙ sym (append_assoc before mine (later ++ after)) ∙ ap (λ g. (before ++ mine) ++ (gate_uses (suc g) rows ++ after)) (sym next))
-      (omega (arith, here, many, length-append before mine)) (omega (arith, each)) gates.1)
+    let many = length-map row.pins (use_by (suc gate)) in (
+      pins-timed chained net phases epochs chains before (later ++ after) (suc gate) pin (get_or chained.stages gate 0) row.pins whole here at (get_or-below chained.n phases gate chains.some chains.below)
+          (below-there net.inputs gate (length net.gates) row.pins (omega (arith, each)) gates.0.drivers),
+      gates-timed chained net phases epochs chains (before ++ mine) after (gate + 1) (pin + length row.pins) rows
+          (whole ∙ sym (append_assoc before mine (later ++ after)) ∙ ap (λ g. (before ++ mine) ++ (gate_uses (suc g) rows ++ after)) (sym next))
+          (omega (arith, here, many, length-append before mine)) (omega (arith, each)) gates.1,
+    )
 
 length-gate_uses : (user : ℕ) (rows : List GateRow) → length (gate_uses user rows) ≡ gate_pins rows
 length-gate_uses user [] = refl
@@ -218,13 +220,13 @@ chains_keep_time net phases n epochs has =
       gates = timed_gates;
       outputs = timed_outs;
       empty = λ none.
-        let a = ap length none in
-        let b = length-append (flat_map (λ (row : GateRow). row.pins) rows) outs in
-        let c = length-row_pins rows in
-        let d = length-append by_gates last in
-        let f = length-gate_uses 1 rows in
-        let g = length-map outs (use_by sink) in
-        has.empty (none-used (uses_of net) (omega (arith, a, b, c, d, f, g)));
+          let a = ap length none in
+          let b = length-append (flat_map (λ (row : GateRow). row.pins) rows) outs in
+          let c = length-row_pins rows in
+          let d = length-append by_gates last in
+          let f = length-gate_uses 1 rows in
+          let g = length-map outs (use_by sink) in
+          has.empty (none-used (uses_of net) (omega (arith, a, b, c, d, f, g)));
     }
 
 -- So they are laid out as a valid netlist.

@@ -108,9 +108,10 @@ ends-reached inputs gates (From driver ∷ ends) all =
 pub gates-from : (inputs gate : ℕ) (rows : List GateRow) → ((place : ℕ) (d : GateRow) → place < length rows → IsGate inputs (gate + place) (get_or rows place d)) → AreGatesFrom inputs gate rows
 gates-from inputs gate [] h = tt
 gates-from inputs gate (row ∷ rows) h =
-    let z : gate + 0 ≡ gate = omega arith in
-    (subst (λ g. IsGate inputs g row) z (h 0 row (omega arith)),
-    gates-from inputs (gate + 1) rows (λ place d low. let e : gate + suc place ≡ (gate + 1) + place = omega arith in subst (λ g. IsGate inputs g (get_or rows place d)) e (h (suc place) d (omega arith))))
+    let z : gate + 0 ≡ gate = omega arith in (
+      subst (λ g. IsGate inputs g row) z (h 0 row (omega arith)),
+      gates-from inputs (gate + 1) rows (λ place d low. let e : gate + suc place ≡ (gate + 1) + place = omega arith in subst (λ g. IsGate inputs g (get_or rows place d)) e (h (suc place) d (omega arith))),
+    )
 
 -- a driver is no input past the last
 abbrev InputThere : ℕ → Driver → Type 0
@@ -199,7 +200,7 @@ latency-one latency false one = or_left (latency == 1) false (ap (λ n. nat_eq n
 -- nothing is laid out yet, and the inputs' wires wait
 Stands-empty : (chained : Chained) →
     Stands chained.n (wire_count (inputs_of chained)) (made_inputs input_stage 0 (inputs_of chained)) (tap_stage chained) chained.needs 0 (pin_drivers chained.gates) (by_driver (before_input 0))
-      (λ w. times w (flat_map option_to_list (inputs_of chained))) (empty_layout chained)
+    (λ w. times w (flat_map option_to_list (inputs_of chained))) (empty_layout chained)
 Stands-empty chained =
     let wires = inputs_of chained in
     let first = wire_count wires in
@@ -231,7 +232,7 @@ inputs-found wires (wire ∷ some) within =
 -- Behind the last gate the pins of the outputs wait, and no other wire.
 Stands-layout : (chained : Chained) → KeepsTime chained →
     Stands chained.n (wire_count (inputs_of chained)) (made_inputs input_stage 0 (inputs_of chained)) (tap_stage chained) chained.needs (gate_pins chained.gates.gates) (flat_map end_drivers chained.gates.outputs)
-      (by_driver (before_gate (length chained.gates.gates))) (λ w. 0) (layout_of chained)
+    (by_driver (before_gate (length chained.gates.gates))) (λ w. 0) (layout_of chained)
 Stands-layout chained timed =
     let n = chained.n in
     let inputs = chained.gates.inputs in
@@ -249,7 +250,7 @@ Stands-layout chained timed =
     let begun : Stands n first start stage chained.needs 0 all (by_driver (before_gate 0)) (λ w. 0) layout =
     Stands-agree n first start stage chained.needs 0 all (by_driver (before_input (0 + inputs))) (by_driver (before_gate 0)) (λ w. 0) layout (Agree-first inputs chained.needs 0 all there) laid_inputs in
     let done = Stands-gates chained first start [] outs 0 0 rows layout timed.some_phase refl refl gates (λ later low. tt)
-      (λ k low high. tap_count-gate chained k (timed.used k (omega arith))) timed.gates begun in
+    (λ k low high. tap_count-gate chained k (timed.used k (omega arith))) timed.gates begun in
     let p : 0 + gate_pins rows ≡ gate_pins rows = omega arith in
     let g : 0 + length rows ≡ length rows = omega arith in
     subst (λ k. Stands n first start stage chained.needs (gate_pins rows) outs (by_driver (before_gate k)) (λ w. 0) (layout_of chained)) g
@@ -297,15 +298,15 @@ IsWired-layout chained names timed =
     record {
       elements = end.laid.in_time;
       outputs = outlets-timed chained (after start layout.elements) (before_gate (length rows)) layout.taken (chained.n * chained.latency) (gate_pins rows) ends
-        (ends-reached inputs (length rows) ends timed.formed.outputs) timed.outputs end.staged;
+          (ends-reached inputs (length rows) ends timed.formed.outputs) timed.outputs end.staged;
       made_once = distinct-once (makes_of (elements_of chained names)) (λ w. let e = ap (times w) made in let o = times-run_once w 0 layout.next in omega (arith, e, o));
       used_once = distinct-once (uses_of (elements_of chained names)) (λ w. let e = used w in let o = times-run_once w 0 layout.next in omega (arith, e, o));
       all_used = λ w h. let m = among-times (makes_of (elements_of chained names)) w h in let e = ap (times w) made in let f = used w in
-        times-among (uses_of (elements_of chained names)) w (omega (arith, m, e, f));
+          times-among (uses_of (elements_of chained names)) w (omega (arith, m, e, f));
       latency = latency-one chained.latency (list_any has_wire (outlets layout.taken (gate_pins rows) ends))
-        (λ none. let no_outs = outlets-some layout.taken (gate_pins rows) ends none in
-        let no_rows = no-gates inputs chained.needs rows outs gates no_outs (λ k low. tap_count-gate chained k (timed.used k low)) in
-        timed.empty (λ i. flat_map (λ (row : GateRow). row.pins) (no_rows i) ++ no_outs i));
+          (λ none. let no_outs = outlets-some layout.taken (gate_pins rows) ends none in
+          let no_rows = no-gates inputs chained.needs rows outs gates no_outs (λ k low. tap_count-gate chained k (timed.used k low)) in
+          timed.empty (λ i. flat_map (λ (row : GateRow). row.pins) (no_rows i) ++ no_outs i));
     }
 
 -- Where the chains keep time, the netlist is valid.
