@@ -67,7 +67,7 @@ ChainsAreValid =
     (net : GateNet) (phases : List ℕ) (n : ℕ) (epochs : Epochs) (names : Names) → HasChains net phases n epochs
     → HasNames (chained_of net phases n epochs) names → IsValid (elements_of (chained_of net phases n epochs) names)
 
--- how many DROs there are among these elements
+-- whether a cell is a DRO
 abbrev pub is_dro : Cell → Bool
 is_dro Dro = true
 is_dro Not = false
@@ -75,6 +75,7 @@ is_dro And = false
 is_dro Or = false
 is_dro Xor = false
 
+-- how many DROs there are among these elements
 abbrev pub dros : List Element → ℕ
 dros [] = 0
 dros (Clocked cell stage pins out ∷ elements) = cond (is_dro cell) 1 0 + dros elements

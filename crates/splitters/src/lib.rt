@@ -30,4 +30,6 @@ mod taps;
 
 pub use build::split;
 pub use fits::can_split;
-pub use laws::{chains_are_valid, chains_keep_time, dros_are_the_chains, dros_are_the_count, layout_is_valid};
+pub use laws::{
+    chains_are_valid, chains_keep_time, dros_are_the_chains, dros_are_the_count, layout_is_valid,
+};
