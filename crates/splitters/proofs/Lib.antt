@@ -11,4 +11,5 @@ pub mod WiredInputs
 pub mod WiredWhole
 pub mod WiredTimes
 pub mod WiredDros
+pub mod WiredCount
 pub mod Examples

@@ -69,11 +69,11 @@ tap_count-unused needs driver pin (other ∷ drivers) h = by (same_driver driver
     by true h rest = absurd (true≢false h)
     by false h rest = let r = rest h in omega (arith, r)
 
-length-taps_from : (needs : List ℕ) (drivers : List Driver) (driver : Driver) (need count : ℕ) → length (taps_from needs drivers driver need count) ≡ count
+pub length-taps_from : (needs : List ℕ) (drivers : List Driver) (driver : Driver) (need count : ℕ) → length (taps_from needs drivers driver need count) ≡ count
 length-taps_from needs drivers driver need zero = refl
 length-taps_from needs drivers driver need (suc count) = ap suc (length-taps_from needs drivers driver (need + 1) count)
 
-no-taps : (chained : Chained) (driver : Driver) → is_used chained driver ≡ false → length (taps_of chained driver) ≡ 0
+pub no-taps : (chained : Chained) (driver : Driver) → is_used chained driver ≡ false → length (taps_of chained driver) ≡ 0
 no-taps chained driver h =
     length-taps_from chained.needs (pin_drivers chained.gates) driver 0 (tap_count chained.needs driver 0 (pin_drivers chained.gates)) ∙ tap_count-unused chained.needs driver 0 (pin_drivers chained.gates) h
 

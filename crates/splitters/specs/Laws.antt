@@ -13,6 +13,8 @@ use Rattle.pulse_net.specs.Wired.{IsInTime}
 use Rattle.pulse_net.specs.Validity.{IsValid}
 use Rattle.gate_net.specs.declared.net.GateNet.{GateNet}
 use Rattle.flow_net.specs.declared.net.Epochs.{Epochs}
+use Rattle.flow_net.specs.Network.{network_of}
+use Rattle.flow_net.specs.Epochs.{dro_count}
 use Rattle.dro_chains.specs.Chains.{HasChains, chained_of}
 use Rattle.dro_chains.specs.declared.chain.Chained.{Chained}
 use Rattle.splitters.specs.Taps.{driver_stage, taps_of}
@@ -65,7 +67,7 @@ ChainsAreValid =
     (net : GateNet) (phases : List ℕ) (n : ℕ) (epochs : Epochs) (names : Names) → HasChains net phases n epochs
     → HasNames (chained_of net phases n epochs) names → IsValid (elements_of (chained_of net phases n epochs) names)
 
--- how many DROs there are among these elements
+-- whether a cell is a DRO
 abbrev pub is_dro : Cell → Bool
 is_dro Dro = true
 is_dro Not = false
@@ -73,6 +75,7 @@ is_dro And = false
 is_dro Or = false
 is_dro Xor = false
 
+-- how many DROs there are among these elements
 abbrev pub dros : List Element → ℕ
 dros [] = 0
 dros (Clocked cell stage pins out ∷ elements) = cond (is_dro cell) 1 0 + dros elements
@@ -92,3 +95,9 @@ abbrev pub DrosAreTheChains : Type 0
 DrosAreTheChains =
     (chained : Chained) (names : Names) → IsGateNet chained.gates
     → dros (elements_of chained names).elements ≡ input_dros chained 0 chained.gates.inputs + gate_dros chained 0 (length chained.gates.gates)
+
+-- The chains of a netlist are laid out with as many DROs as their count says.
+abbrev pub DrosAreTheCount : Type 0
+DrosAreTheCount =
+    (net : GateNet) (phases : List ℕ) (n : ℕ) (epochs : Epochs) (names : Names) → HasChains net phases n epochs
+    → dros (elements_of (chained_of net phases n epochs) names).elements ≡ dro_count (network_of net phases) epochs

@@ -1,6 +1,6 @@
 //! What the layout of gates with shared chains means, as laws. A law takes nothing and does nothing: its clause is the law.
 
-ghost use Rattle.splitters.specs.Laws.{ChainsAreValid, ChainsKeepTime, DrosAreTheChains, LayoutIsValid};
+ghost use Rattle.splitters.specs.Laws.{ChainsAreValid, ChainsKeepTime, DrosAreTheChains, DrosAreTheCount, LayoutIsValid};
 
 /// Where each gate has a use, and each pin takes from its tap 1 to n ticks before its gate or before the reading, the
 /// netlist of gates with shared chains is valid: each wire is made once and used once, and each is read in time.
@@ -21,4 +21,9 @@ pub fn chains_are_valid()
 /// There are as many DROs as the chains are long: a driver's chain has one for each tap behind its first.
 pub fn dros_are_the_chains()
     ensures { DrosAreTheChains }
+{}
+
+/// The answer of `chains` for balanced epochs is laid out with as many DROs as the DRO count of the epochs.
+pub fn dros_are_the_count()
+    ensures { DrosAreTheCount }
 {}

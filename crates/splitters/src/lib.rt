@@ -10,6 +10,7 @@
 //! stage fits 32 bits. The time is linear in the wires.
 //! `chains_are_valid`: where `chains` answers for balanced epochs, that netlist is valid, so each wire is made once and used
 //! once, and each is read 1 to n ticks after it is made (`layout_is_valid`, `chains_keep_time`).
+//! `dros_are_the_count`: it has as many DROs as the DRO count of the epochs.
 //! The lengths of chains are not read, since a chain is as long as the largest need of its pins.
 //!
 //! Read `specs/Spread.antt` for the tree of splitters, `specs/Taps.antt` for who takes from which DRO, and
@@ -29,4 +30,6 @@ mod taps;
 
 pub use build::split;
 pub use fits::can_split;
-pub use laws::{chains_are_valid, chains_keep_time, dros_are_the_chains, layout_is_valid};
+pub use laws::{
+    chains_are_valid, chains_keep_time, dros_are_the_chains, dros_are_the_count, layout_is_valid,
+};
