@@ -1,5 +1,5 @@
 -- The taps of a driver: itself and the DROs of its chain, each with the pins that take from it.
-use Rattle.std.specs.Prelude.{◌<◌, ◌≡◌, ◌^◌, ◌*◌, ◌-◌, ◌+◌, ◌++◌, ◌&&◌, ◌==◌, ℕ, zero, suc, Bool, true, false, cond, max, List, [], ◌∷◌, length, slice_index, slice_index_or}
+use Rattle.std.specs.Prelude.{◌<◌, ◌≡◌, ◌^◌, ◌*◌, ◌+◌, ◌++◌, ◌&&◌, ◌==◌, ℕ, zero, suc, Bool, true, false, cond, max, List, [], ◌∷◌, length, slice_index, slice_index_or}
 use Rattle.std.specs.List.{list_any}
 use Rattle.gate_net.specs.declared.row.Driver.{Driver}
 use Rattle.gate_net.specs.declared.row.Driver.TheVariants.{Input, Gate}

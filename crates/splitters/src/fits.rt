@@ -36,7 +36,7 @@ fn stages_fit(chained: &Chained, drivers: &[Driver]) -> bool
 }
 
 /// Whether gates with shared chains can be laid out: they have fewer than 2 ^ 31 pins, and the stage of each DRO fits.
-/// What `chains` answers can be, where its epochs are balanced.
+/// That the answer of `chains` for balanced epochs can be isn't proved yet, so a caller asks.
 pub fn can_split(alloc: Global, chained: &Chained) -> Result<bool, NoMemory>
     requires { IsGateNet chained.now.gates }
     ensures { IfOk result (λ can. IsTrue can ↔ CanSplit chained.now) }
