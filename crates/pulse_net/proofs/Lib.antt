@@ -13,4 +13,5 @@ mod Agree
 mod Traced
 mod Unfolds
 pub mod GateLaw
+mod Depths
 mod UnfoldExamples

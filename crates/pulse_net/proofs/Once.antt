@@ -1,5 +1,5 @@
 -- Lists in which no wire stands twice, and the wires of a table.
-use Rattle.std.proofs.Common.{◌≡◌, ℕ, Bool, true, false, cond, nat_eq, ◌||◌, ◌+◌, List, [], ◌∷◌, ◌++◌, refl, sym, ap, ◌∙◌, ⊎_elim, append_assoc}
+use Rattle.std.proofs.Common.{◌≡◌, ℕ, Bool, true, false, cond, nat_eq, ◌||◌, ◌+◌, List, [], ◌∷◌, ◌++◌, refl, sym, ap, subst, ◌∙◌, ⊎_elim, append_assoc}
 use Rattle.std.specs.Prelude.{Option, Some, None, flat_map, option_to_list}
 use Rattle.std.specs.List.{IsDistinct, AllByRecursion}
 use Rattle.std.specs.Map.{keys_of}
@@ -55,6 +55,23 @@ keys-elements (element ∷ elements) made =
 pub keys-stages : (net : PulseNet) → keys_of (stages_of net) ≡ makes_of net
 keys-stages net =
     keys-elements net.elements (input_wires input_stage 0 net.inputs) ∙ ap (λ k. k ++ flat_map element_makes net.elements) (keys-inputs net.inputs 0)
+
+-- the next wire is new, where no wire is made twice
+pub new_wire : (a : Wires ℕ) (wire : ℕ) (rest : List ℕ) → IsDistinct nat_eq (keys_of a ++ wire ∷ rest) → found a wire ≡ None
+new_wire a wire rest h = found-absent a wire (is_among-next (keys_of a) rest wire h)
+
+-- behind a wire that is made
+pub behind_wire : (a : Wires ℕ) (wire stage : ℕ) (rest : List ℕ) → IsDistinct nat_eq (keys_of a ++ wire ∷ rest) → IsDistinct nat_eq (keys_of (a ++ (wire, stage) ∷ []) ++ rest)
+behind_wire a wire stage rest h =
+    let made : keys_of (a ++ (wire, stage) ∷ []) ≡ keys_of a ++ wire ∷ [] = map-append (λ (e : ℕ × ℕ). e.0) a ((wire, stage) ∷ []) in
+    subst (IsDistinct nat_eq) (sym (ap (λ k. k ++ rest) made ∙ append_assoc (keys_of a) (wire ∷ []) rest)) h
+
+-- and behind the wires of an element
+pub behind_element : (a : Wires ℕ) (element : Element) (rest : List ℕ) → IsDistinct nat_eq (keys_of a ++ (element_makes element ++ rest)) → IsDistinct nat_eq (keys_of (a ++ element_wires 0 cell_stage a element) ++ rest)
+behind_element a element rest h =
+    let wires = element_wires 0 cell_stage a element in
+    let made : keys_of (a ++ wires) ≡ keys_of a ++ element_makes element = map-append (λ (e : ℕ × ℕ). e.0) a wires ∙ ap (λ k. keys_of a ++ k) (keys-element a element) in
+    subst (IsDistinct nat_eq) (sym (ap (λ k. k ++ rest) made ∙ append_assoc (keys_of a) (element_makes element) rest)) h
 
 -- where no unused wire is found, each wire is used
 pub record AreUsed (used wires : List ℕ) (least : Option ℕ) : Type 0 where

@@ -14,6 +14,7 @@ use Rattle.pulse_net.specs.declared.net.Outlet.TheVariants.{Zero, Wire}
 use Rattle.pulse_net.specs.declared.net.PulseNet.{PulseNet}
 use Rattle.pulse_net.specs.declared.unfolding.Unfolded.{Unfolded}
 use Rattle.pulse_net.specs.Unfolding.{unfolded, gate_wires}
+use Rattle.pulse_net.specs.Depths.{depths_of}
 
 -- a model `m` with inputs `a` and `b` on wires 0 and 1, and an output `f`
 abbrev netlist : ℕ → ℕ → List Element → Outlet → PulseNet
@@ -47,6 +48,14 @@ one_phase-unfolds = refl
 
 one_phase-wires : gate_wires one_phase ≡ 3 ∷ (4 ∷ [])
 one_phase-wires = refl
+
+-- a is one deep behind its DRO, and gates begin anew
+one_phase-depths : depths_of one_phase ≡ (0, 0) ∷ ((1, 0) ∷ ((2, 1) ∷ ((3, 0) ∷ ((4, 0) ∷ []))))
+one_phase-depths = refl
+
+-- both sides of a splitter are as deep as its source
+split-depths : depths_of (netlist 1 3 (Clocked Dro 1 (0 ∷ []) 2 ∷ (Split 2 3 4 ∷ (Clocked Dro 2 (3 ∷ []) 5 ∷ (Clocked And 2 (1 ∷ (4 ∷ [])) 6 ∷ [])))) (Wire 6)) ≡ (0, 0) ∷ ((1, 0) ∷ ((2, 1) ∷ ((3, 1) ∷ ((4, 1) ∷ ((5, 2) ∷ ((6, 0) ∷ []))))))
+split-depths = refl
 
 -- four phases: stage 5 is phase 1 of epoch 1, by way of a DRO
 by_way_of_dro-unfolds : unfolded (netlist 4 2 (Clocked Dro 4 (0 ∷ []) 2 ∷ (Clocked Not 5 (2 ∷ []) 3 ∷ [])) (Wire 3)) ≡ gates_of (gate Not (Input 0 ∷ []) ∷ []) (ends.From (Gate 0)) (1 ∷ []) (1 ∷ []) 2 1

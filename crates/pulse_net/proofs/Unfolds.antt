@@ -3,7 +3,7 @@ use Rattle.std.proofs.Common.{◌≡◌, ◌≢◌, ◌≤◌, ◌+◌, ℕ, Boo
 use Rattle.std.specs.Prelude.{Option, Some, None, flat_map, option_to_list, ◌&&◌}
 use Rattle.std.specs.List.{IsDistinct, AllByRecursion}
 use Rattle.std.specs.Map.{keys_of}
-use Rattle.std.proofs.lemmas.List.{append-nil, map-append, length-map}
+use Rattle.std.proofs.lemmas.List.{append-nil, length-map}
 use Rattle.std.proofs.lemmas.List.Elements.{All-from_recursion}
 use Rattle.cell_lib.specs.declared.cell.Cell.{Cell}
 use Rattle.cell_lib.specs.declared.cell.Cell.TheVariants.{Dro, Not, And, Or, Xor}
@@ -20,7 +20,7 @@ use Rattle.pulse_net.specs.Wires.{Wires, found, carried, input_wires, element_wi
 use Rattle.pulse_net.specs.Wired.{element_makes, ArriveInTime, ElementInTime, ElementsInTime}
 use Rattle.pulse_net.specs.RowValues.{input_value, stageless_value}
 use Rattle.pulse_net.specs.Unfolding.{Unfolding, driver_of, make_driven, add_gate, pass_dro, dro_driver, unfold_element, unfold_elements, unfold_inputs, gate_wire}
-use Rattle.pulse_net.proofs.Once.{is_among-next, found-absent, keys-element}
+use Rattle.pulse_net.proofs.Once.{new_wire, behind_wire, behind_element}
 use Rattle.pulse_net.proofs.Agree.{values_by, IsDriven, agree-found, agree-absent, agree-make, agree-more, driven-new, pins-there, pins-worth}
 use Rattle.pulse_net.proofs.Traced.{Traced, gates_known-wires, gates_known-push}
 
@@ -66,16 +66,6 @@ module _ (inputs : ℕ) (bits : List Bool) where
       } in
       subst (λ (v : Bool). Traced inputs bits (a ++ (out, stage) ∷ []) (b ++ (out, v) ∷ []) (add_gate cell stage out (map (driver_of so.wires) pins) so) (outs ++ out ∷ [])) worth made
 
-  -- the next wire is new, where no wire is made twice
-  new_wire : (a : Wires ℕ) (wire : ℕ) (rest : List ℕ) → IsDistinct nat_eq (keys_of a ++ wire ∷ rest) → found a wire ≡ None
-  new_wire a wire rest h = found-absent a wire (is_among-next (keys_of a) rest wire h)
-
-  -- behind a wire that is made
-  behind_wire : (a : Wires ℕ) (wire stage : ℕ) (rest : List ℕ) → IsDistinct nat_eq (keys_of a ++ wire ∷ rest) → IsDistinct nat_eq (keys_of (a ++ (wire, stage) ∷ []) ++ rest)
-  behind_wire a wire stage rest h =
-      let made : keys_of (a ++ (wire, stage) ∷ []) ≡ keys_of a ++ wire ∷ [] = map-append (λ (e : ℕ × ℕ). e.0) a ((wire, stage) ∷ []) in
-      subst (IsDistinct nat_eq) (sym (ap (λ k. k ++ rest) made ∙ append_assoc (keys_of a) (wire ∷ []) rest)) h
-
   -- no gate more
   no_gate : (a : Wires ℕ) (b : Wires Bool) (so : Unfolding) (outs : List ℕ) → Traced inputs bits a b so outs → Traced inputs bits a b so (outs ++ [])
   no_gate a b so outs t = subst (λ (o : List ℕ). Traced inputs bits a b so o) (sym (append-nil outs)) t
@@ -100,12 +90,6 @@ module _ (inputs : ℕ) (bits : List Bool) where
   element_traced a b so outs t n (Clocked Or stage pins out) h pinned rest distinct = gate_traced a b so outs t n Or stage out pins (λ e. cc) pinned h (new_wire a out rest distinct)
   element_traced a b so outs t n (Clocked Xor stage pins out) h pinned rest distinct = gate_traced a b so outs t n Xor stage out pins (λ e. cc) pinned h (new_wire a out rest distinct)
   element_traced a b so outs t n (Split from left right) h pinned rest distinct = no_gate _ _ _ outs (split_traced a b so outs t n from left right h rest distinct)
-
-  behind_element : (a : Wires ℕ) (element : Element) (rest : List ℕ) → IsDistinct nat_eq (keys_of a ++ (element_makes element ++ rest)) → IsDistinct nat_eq (keys_of (a ++ element_wires 0 cell_stage a element) ++ rest)
-  behind_element a element rest h =
-      let wires = element_wires 0 cell_stage a element in
-      let made : keys_of (a ++ wires) ≡ keys_of a ++ element_makes element = map-append (λ (e : ℕ × ℕ). e.0) a wires ∙ ap (λ k. keys_of a ++ k) (keys-element a element) in
-      subst (IsDistinct nat_eq) (sym (ap (λ k. k ++ rest) made ∙ append_assoc (keys_of a) (element_makes element) rest)) h
 
   -- Elements in order. Later gates leave the values of those before as they were, and later wires are other wires.
   pub elements_traced : (a : Wires ℕ) (b : Wires Bool) (so : Unfolding) (outs : List ℕ) → Traced inputs bits a b so outs → (n : ℕ) (elements : List Element) → ElementsInTime n a elements → AllByRecursion HasItsPins elements → IsDistinct nat_eq (keys_of a ++ flat_map element_makes elements) → Traced inputs bits (after_elements 0 cell_stage a elements) (after_elements false stageless_value b elements) (unfold_elements elements so) (outs ++ flat_map gate_wire elements)

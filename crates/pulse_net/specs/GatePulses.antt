@@ -6,7 +6,8 @@ use Rattle.pulse_net.specs.declared.net.PulseNet.{PulseNet}
 use Rattle.pulse_net.specs.declared.unfolding.Unfolded.{Unfolded}
 use Rattle.pulse_net.specs.Pulses.{value_read}
 use Rattle.pulse_net.specs.Laws.{row_of, spread_signal}
-use Rattle.pulse_net.specs.Unfolding.{gate_wires}
+use Rattle.pulse_net.specs.Validity.{IsValid}
+use Rattle.pulse_net.specs.Unfolding.{gate_wires, unfolded}
 
 -- the phase of gate k, and its stage
 abbrev pub gate_phase : Unfolded → ℕ → ℕ
@@ -26,3 +27,7 @@ pub record GatePulses (net : PulseNet) (unfolded : Unfolded) (rows : List (List 
 pub record PulsesAreGateValues (net : PulseNet) (unfolded : Unfolded) : Type 0 where
   pub gates : (rows : List (List Bool)) (k : ℕ) → k < length unfolded.gates.gates → GatePulses net unfolded rows k
   pub outputs : (rows : List (List Bool)) (output c : ℕ) → c < length rows → value_read net rows output c ≡ end_value unfolded.gates (row_of rows c) (slice_index_or unfolded.gates.outputs output Zero)
+
+-- In each valid netlist the pulses are the values of the gates that it unfolds to.
+abbrev pub UnfoldedPulses : Type 0
+UnfoldedPulses = (net : PulseNet) → IsValid net → PulsesAreGateValues net (unfolded net)

@@ -7,4 +7,5 @@ pub mod Wired
 pub mod Laws
 pub mod Refusals
 pub mod Unfolding
+pub mod Depths
 pub mod GatePulses

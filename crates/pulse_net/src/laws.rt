@@ -1,5 +1,7 @@
 //! What the rules and the pulses mean, as laws on every netlist. A law takes nothing and does nothing: its clause is the law.
 
+ghost use Rattle.pulse_net.specs.Depths.{StagesFollowDepths};
+ghost use Rattle.pulse_net.specs.GatePulses.{UnfoldedPulses};
 ghost use Rattle.pulse_net.specs.Laws.{NamesTheLeast, PulsesAreRowValues, ReadsAreRowValues, UnbrokenIsWired};
 
 /// No rule is broken exactly where each wire is made once and used once, each element's sources are made before it, and
@@ -23,4 +25,16 @@ pub fn pulses_are_row_values()
 /// In a valid netlist the value read at an output for row c is the output's value over row c.
 pub fn reads_are_row_values()
     ensures { ReadsAreRowValues }
+{}
+
+/// In a valid netlist the wire of each unfolded gate pulses as the gate is valued, and what is read at an output for row c
+/// is the value that the gates give it over row c. It is the clause `pulses` of `unfold`, without a call.
+pub fn pulses_are_gate_values()
+    ensures { UnfoldedPulses }
+{}
+
+/// In a valid netlist with n phases a wire that passed k DROs behind its driver has its driver's stage, or a later one by
+/// n * k ticks at most. The stage of an input is 0.
+pub fn stages_follow_depths()
+    ensures { StagesFollowDepths }
 {}
