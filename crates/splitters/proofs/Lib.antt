@@ -1,7 +1,9 @@
 pub mod Trees
 pub mod TapLemmas
 pub mod PinLemmas
+pub mod PinCount
 pub mod LayoutLemmas
+pub mod LayoutGrows
 pub mod WiredCounts
 pub mod WiredFrontier
 pub mod WiredPins
@@ -12,4 +14,12 @@ pub mod WiredWhole
 pub mod WiredTimes
 pub mod WiredDros
 pub mod WiredCount
+pub mod ChainSums
+pub mod LayoutCount
+pub mod ChainsFit
+pub mod UnfoldsWires
+pub mod UnfoldsChains
+pub mod UnfoldsGates
+pub mod UnfoldsInputs
+pub mod UnfoldsWhole
 pub mod Examples

@@ -184,7 +184,7 @@ with_taps-next reached driver count other its = by (reached other) (same_driver 
     by false true = refl
     by false false = refl
 
-with_taps-new : (reached : Driver → Bool) (driver : Driver) (count : ℕ) → ((other : Driver) → same_driver driver other ≡ true → reached other ≡ false) → IsNew (with_taps reached driver count) driver count
+pub with_taps-new : (reached : Driver → Bool) (driver : Driver) (count : ℕ) → ((other : Driver) → same_driver driver other ≡ true → reached other ≡ false) → IsNew (with_taps reached driver count) driver count
 with_taps-new reached driver count late other its = by (reached other) (same_driver driver other) (its == count) (late other) (λ e. below-from its count (omega (arith, eqb-true its count e)))
   where
     by : (before same here : Bool) → (same ≡ true → before ≡ false) → (here ≡ true → below its count ≡ false) → (same && here) ≡ true → (before || (same && below its count)) ≡ false
@@ -192,7 +192,7 @@ with_taps-new reached driver count late other its = by (reached other) (same_dri
     by before true false l b h = absurd (true≢false (sym h))
     by before false here l b h = absurd (true≢false (sym h))
 
-takers-behind : (needs : List ℕ) (driver : Driver) (need : ℕ) (used rest : List Driver) → DrivesNone driver used →
+pub takers-behind : (needs : List ℕ) (driver : Driver) (need : ℕ) (used rest : List Driver) → DrivesNone driver used →
     takers needs driver need 0 (used ++ rest) ≡ takers needs driver need (length used) rest
 takers-behind needs driver need used rest none = let z : 0 + length used ≡ length used = omega arith in takers-late needs driver need 0 used rest none ∙ ap (λ p. takers needs driver need p rest) z
 
@@ -205,7 +205,7 @@ taps-level stage driver s phases need at stages here other its = by (same_driver
     by true false l e h = absurd (true≢false (sym h))
     by false equal l e h = absurd (true≢false (sym h))
 
-with_taps-plus : (reached : Driver → Bool) (driver : Driver) (count : ℕ) (other : Driver) (its : ℕ) →
+pub with_taps-plus : (reached : Driver → Bool) (driver : Driver) (count : ℕ) (other : Driver) (its : ℕ) →
     with_taps reached driver (count + 1) other its ≡ and_tap (with_taps reached driver count) driver count other its
 with_taps-plus reached driver count other its = let e : count + 1 ≡ suc count = omega arith in ap (λ n. with_taps reached driver n other its) e ∙ with_taps-next reached driver count other its
 
@@ -272,7 +272,7 @@ tap_count-late needs driver pin (other ∷ used) rest none =
     ∙ ap (λ p. tap_count needs driver p rest) e
 
 -- each pin of the driver has a need below the number of its taps
-Agree-chain : (needs : List ℕ) (reached : Driver → Bool) (driver : Driver) (total pin : ℕ) (drivers : List Driver) → tap_count needs driver pin drivers ≤ total →
+pub Agree-chain : (needs : List ℕ) (reached : Driver → Bool) (driver : Driver) (total pin : ℕ) (drivers : List Driver) → tap_count needs driver pin drivers ≤ total →
     Agree (with_taps reached driver total) (by_driver (and_driver reached driver)) needs pin drivers
 Agree-chain needs reached driver total pin [] few = tt
 Agree-chain needs reached driver total pin (other ∷ drivers) few =
@@ -284,7 +284,7 @@ Agree-chain needs reached driver total pin (other ∷ drivers) few =
     by true false low few = sym (low (omega arith))
     by false false low few = refl
 
-with_taps-none : (reached : Driver → Bool) (driver other : Driver) (its : ℕ) → with_taps reached driver 0 other its ≡ by_driver reached other its
+pub with_taps-none : (reached : Driver → Bool) (driver other : Driver) (its : ℕ) → with_taps reached driver 0 other its ≡ by_driver reached other its
 with_taps-none reached driver other its = by (reached other) (same_driver driver other)
   where
     by : (before same : Bool) → (before || (same && false)) ≡ before

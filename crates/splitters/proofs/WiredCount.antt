@@ -19,11 +19,11 @@ use Rattle.flow_net.specs.declared.net.Pin.{Pin}
 use Rattle.flow_net.specs.declared.net.Epochs.{Epochs}
 use Rattle.flow_net.specs.Uses.{use_by, gate_uses, sink_of, uses_of, used_below, used_inputs, driver_number, IsInputBelow, is_used as is_used_input}
 use Rattle.flow_net.specs.Network.{pin_of, network_of}
-use Rattle.flow_net.specs.Epochs.{need_of, chain_length, chain_lengths}
+use Rattle.flow_net.specs.Epochs.{need_of, chain_length, chain_lengths, dro_count}
 use Rattle.flow_net.proofs.UseLemmas.{uses-inputs}
 use Rattle.dro_chains.specs.Chains.{chained_of}
-use Rattle.splitters.specs.Taps.{tap_count, taps_of}
-use Rattle.splitters.specs.Laws.{input_dros, gate_dros, DrosAreTheCount}
+use Rattle.splitters.specs.Taps.{tap_count, taps_of, input_dros, gate_dros, chain_dros}
+use Rattle.splitters.specs.Laws.{DrosAreTheCount}
 use Rattle.splitters.proofs.WiredCounts.{nat_eq-other, nat_eq-differs}
 use Rattle.splitters.proofs.WiredDros.{length-taps_from, no-taps, dros_are_the_chains}
 
@@ -189,12 +189,9 @@ sum-gates net phases n epochs gate (suc more) formed =
     let chain = chain-driver net phases n epochs (Gate gate) formed tt tt in
     omega (arith, f, rest, g, one, chain)
 
--- The chains of a netlist are laid out with as many DROs as their count says.
-pub dros_are_the_count : DrosAreTheCount
-dros_are_the_count net phases n epochs names has =
-    let formed = has.fits.network.formed in
-    let pins = (network_of net phases).pins in
-    let a = dros_are_the_chains (chained_of net phases n epochs) names formed in
+-- The chains of all drivers have as many DROs as the count says.
+pub chains_are_the_count : (net : GateNet) (phases : List ℕ) (n : ℕ) (epochs : Epochs) → IsGateNet net → chain_dros (chained_of net phases n epochs) ≡ dro_count (network_of net phases) epochs
+chains_are_the_count net phases n epochs formed =
     let b = sum-inputs net phases n epochs 0 net.inputs formed (omega arith) in
     let c = sum-gates net phases n epochs 0 (length net.gates) formed in
     let x : 0 + net.inputs ≡ net.inputs = omega arith in
@@ -204,4 +201,10 @@ dros_are_the_count net phases n epochs names has =
     let w : used_inputs net + (0 + length net.gates) ≡ used_inputs net + length net.gates = omega arith in
     let u = ap (λ k. sum (chain_lengths epochs (network_of net phases).pins k)) w in
     let none : sum (chain_lengths epochs (network_of net phases).pins (used_below (uses_of net) 0)) ≡ 0 = refl in
-    omega (arith, a, b, c, y, v, u, none)
+    omega (arith, b, c, y, v, u, none)
+
+-- The chains of a netlist are laid out with as many DROs as their count says.
+pub dros_are_the_count : DrosAreTheCount
+dros_are_the_count net phases n epochs names has =
+    let formed = has.fits.network.formed in
+    dros_are_the_chains (chained_of net phases n epochs) names formed ∙ chains_are_the_count net phases n epochs formed

@@ -70,12 +70,12 @@ pub in_time-append : (phases : ℕ) (made : Wires ℕ) (xs ys : List Element) �
 in_time-append phases made [] ys before rest = rest
 in_time-append phases made (x ∷ xs) ys before rest = (before.0, in_time-append phases (made ++ element_wires 0 cell_stage made x) xs ys before.1 rest)
 
--- each of these wires is found with this stage
-abbrev pub AreFound : Wires ℕ → ℕ → List ℕ → Type 0
+-- each of these wires is found, and carries this
+abbrev pub AreFound : {A : Type 0} → Wires A → A → List ℕ → Type 0
 AreFound made stage [] = ⊤
 AreFound made stage (wire ∷ wires) = (found made wire ≡ Some stage) × AreFound made stage wires
 
-pub AreFound-append : (made : Wires ℕ) (stage : ℕ) (xs ys : List ℕ) → AreFound made stage xs → AreFound made stage ys → AreFound made stage (xs ++ ys)
+pub AreFound-append : {A : Type 0} (made : Wires A) (stage : A) (xs ys : List ℕ) → AreFound made stage xs → AreFound made stage ys → AreFound made stage (xs ++ ys)
 AreFound-append made stage [] ys before rest = rest
 AreFound-append made stage (x ∷ xs) ys before rest = (before.0, AreFound-append made stage xs ys before.1 rest)
 

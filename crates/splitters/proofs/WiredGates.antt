@@ -54,7 +54,7 @@ held-reached reached needs taken pin (driver ∷ mine) rest all =
     ap (λ b. with_pin b (get_or taken pin 0) (held (by_driver reached) needs taken (pin + 1) (mine ++ rest))) all.0
     ∙ ap (λ ws. get_or taken pin 0 ∷ ws) (held-reached reached needs taken (pin + 1) mine rest all.1 ∙ ap (λ p. pin_wires taken (pin + 1) mine ++ held (by_driver reached) needs taken p rest) e)
 
-pub AreStaged-behind : (made : Wires ℕ) (stage : Driver → ℕ → ℕ) (marks : Marks) (needs taken : List ℕ) (pin : ℕ) (mine rest : List Driver) →
+pub AreStaged-behind : {A : Type 0} (made : Wires A) (stage : Driver → ℕ → A) (marks : Marks) (needs taken : List ℕ) (pin : ℕ) (mine rest : List Driver) →
     AreStaged made stage marks needs taken pin (mine ++ rest) → AreStaged made stage marks needs taken (pin + length mine) rest
 AreStaged-behind made stage marks needs taken pin [] rest h = let e : pin ≡ pin + 0 = omega arith in subst (λ p. AreStaged made stage marks needs taken p rest) e h
 AreStaged-behind made stage marks needs taken pin (driver ∷ mine) rest h =
@@ -110,7 +110,7 @@ DrivesNone-append driver [] ys before rest = rest
 DrivesNone-append driver (x ∷ xs) ys before rest = (before.0, DrivesNone-append driver xs ys before.1 rest)
 
 -- one gate more
-before_gate-next : (gate : ℕ) (driver : Driver) → before_gate (gate + 1) driver ≡ and_driver (before_gate gate) (Gate gate) driver
+pub before_gate-next : (gate : ℕ) (driver : Driver) → before_gate (gate + 1) driver ≡ and_driver (before_gate gate) (Gate gate) driver
 before_gate-next gate (Input i) = refl
 before_gate-next gate (Gate k) = by (nat_lt k gate) (nat_eq gate k) (nat_lt k (gate + 1)) refl refl refl
   where
@@ -122,7 +122,7 @@ before_gate-next gate (Gate k) = by (nat_lt k gate) (nat_eq gate k) (nat_lt k (g
     by false true false b h w = absurd (true≢false (sym (lt-ltb k (gate + 1) (omega (arith, eqb-true gate k h))) ∙ w))
     by false false true b h w = absurd (omega (arith, nat_eq-differs gate k h, ltb-true k (gate + 1) w, ltb-false k gate b))
 
-before_gate-late : (gate : ℕ) (other : Driver) → same_driver (Gate gate) other ≡ true → before_gate gate other ≡ false
+pub before_gate-late : (gate : ℕ) (other : Driver) → same_driver (Gate gate) other ≡ true → before_gate gate other ≡ false
 before_gate-late gate (Input i) same = absurd (true≢false (sym same))
 before_gate-late gate (Gate k) same = by (nat_lt k gate) refl
   where

@@ -82,7 +82,7 @@ abbrev pub before_input : ℕ → Driver → Bool
 before_input input (Input i) = nat_lt i input
 before_input input (Gate k) = false
 
-before_input-next : (input : ℕ) (driver : Driver) → before_input (input + 1) driver ≡ and_driver (before_input input) (Input input) driver
+pub before_input-next : (input : ℕ) (driver : Driver) → before_input (input + 1) driver ≡ and_driver (before_input input) (Input input) driver
 before_input-next input (Gate k) = refl
 before_input-next input (Input i) = by (nat_lt i input) (nat_eq input i) (nat_lt i (input + 1)) refl refl refl
   where
@@ -94,7 +94,7 @@ before_input-next input (Input i) = by (nat_lt i input) (nat_eq input i) (nat_lt
     by false true false b h w = absurd (true≢false (sym (lt-ltb i (input + 1) (omega (arith, eqb-true input i h))) ∙ w))
     by false false true b h w = absurd (omega (arith, nat_eq-differs input i h, ltb-true i (input + 1) w, ltb-false i input b))
 
-before_input-late : (input : ℕ) (other : Driver) → same_driver (Input input) other ≡ true → before_input input other ≡ false
+pub before_input-late : (input : ℕ) (other : Driver) → same_driver (Input input) other ≡ true → before_input input other ≡ false
 before_input-late input (Gate k) same = refl
 before_input-late input (Input i) same = by (nat_lt i input) refl
   where
@@ -107,7 +107,7 @@ tap_stage-input chained input (Input i) its same = refl
 tap_stage-input chained input (Gate k) its same = absurd (true≢false (sym same))
 
 -- an unused input changes nothing
-Agree-unused : (needs : List ℕ) (reached : Driver → Bool) (driver : Driver) (pin : ℕ) (drivers : List Driver) → list_any (same_driver driver) drivers ≡ false → Agree (by_driver reached) (by_driver (and_driver reached driver)) needs pin drivers
+pub Agree-unused : (needs : List ℕ) (reached : Driver → Bool) (driver : Driver) (pin : ℕ) (drivers : List Driver) → list_any (same_driver driver) drivers ≡ false → Agree (by_driver reached) (by_driver (and_driver reached driver)) needs pin drivers
 Agree-unused needs reached driver pin [] none = tt
 Agree-unused needs reached driver pin (other ∷ drivers) none =
     let split = by (same_driver driver other) (list_any (same_driver driver) drivers) none in

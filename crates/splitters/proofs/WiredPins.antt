@@ -20,8 +20,8 @@ abbrev pub held : Marks → List ℕ → List ℕ → ℕ → List Driver → Li
 held marks needs taken pin [] = []
 held marks needs taken pin (driver ∷ drivers) = with_pin (marks driver (get_or needs pin 0)) (get_or taken pin 0) (held marks needs taken (pin + 1) drivers)
 
--- each of these wires is found with the stage of its tap
-abbrev pub AreStaged : Wires ℕ → (Driver → ℕ → ℕ) → Marks → List ℕ → List ℕ → ℕ → List Driver → Type 0
+-- each of these wires is found, and carries what its tap carries: its stage, say
+abbrev pub AreStaged : {A : Type 0} → Wires A → (Driver → ℕ → A) → Marks → List ℕ → List ℕ → ℕ → List Driver → Type 0
 AreStaged made stage marks needs taken pin [] = ⊤
 AreStaged made stage marks needs taken pin (driver ∷ drivers) =
     (marks driver (get_or needs pin 0) ≡ true → found made (get_or taken pin 0) ≡ Some (stage driver (get_or needs pin 0)))
@@ -42,7 +42,7 @@ held-agree marks others needs taken pin (driver ∷ drivers) same =
     let rest = held-agree marks others needs taken (pin + 1) drivers same.1 in
     λ i. with_pin (same.0 i) (get_or taken pin 0) (rest i)
 
-pub AreStaged-agree : (made : Wires ℕ) (stage : Driver → ℕ → ℕ) (marks others : Marks) (needs taken : List ℕ) (pin : ℕ) (drivers : List Driver) →
+pub AreStaged-agree : {A : Type 0} (made : Wires A) (stage : Driver → ℕ → A) (marks others : Marks) (needs taken : List ℕ) (pin : ℕ) (drivers : List Driver) →
     Agree marks others needs pin drivers → AreStaged made stage marks needs taken pin drivers → AreStaged made stage others needs taken pin drivers
 AreStaged-agree made stage marks others needs taken pin [] same h = tt
 AreStaged-agree made stage marks others needs taken pin (driver ∷ drivers) same h =
@@ -62,7 +62,7 @@ held-set marks needs taken p wire pin (driver ∷ drivers) early =
     let rest = held-set marks needs taken p wire (pin + 1) drivers (omega arith) in
     λ i. with_pin (marks driver (get_or needs pin 0)) (here i) (rest i)
 
-pub AreStaged-set : (made : Wires ℕ) (stage : Driver → ℕ → ℕ) (marks : Marks) (needs taken : List ℕ) (p wire pin : ℕ) (drivers : List Driver) → p < pin →
+pub AreStaged-set : {A : Type 0} (made : Wires A) (stage : Driver → ℕ → A) (marks : Marks) (needs taken : List ℕ) (p wire pin : ℕ) (drivers : List Driver) → p < pin →
     AreStaged made stage marks needs taken pin drivers → AreStaged made stage marks needs (set taken p wire) pin drivers
 AreStaged-set made stage marks needs taken p wire pin [] early h = tt
 AreStaged-set made stage marks needs taken p wire pin (driver ∷ drivers) early h =
@@ -121,8 +121,8 @@ times-held marks needs driver need pin (other ∷ drivers) wires taken w new eac
         let kept : times w (held marks needs (set taken pin wire) (pin + 1) drivers) ≡ times w (held marks needs taken (pin + 1) drivers) = ap (times w) (held-set marks needs taken pin wire (pin + 1) drivers (omega arith)) in
         omega (arith, rest, here, kept)
 
--- And each of them has the stage of the tap, where the spread wires have it.
-pub AreStaged-held : (made : Wires ℕ) (stage : Driver → ℕ → ℕ) (marks : Marks) (needs : List ℕ) (driver : Driver) (need s pin : ℕ) (drivers : List Driver) (wires taken : List ℕ) →
+-- And each of them carries what its tap carries, where the spread wires do.
+pub AreStaged-held : {A : Type 0} (made : Wires A) (stage : Driver → ℕ → A) (marks : Marks) (needs : List ℕ) (driver : Driver) (need : ℕ) (s : A) (pin : ℕ) (drivers : List Driver) (wires taken : List ℕ) →
     ((other : Driver) (its : ℕ) → (same_driver driver other && (its == need)) ≡ true → stage other its ≡ s) →
     IsNew marks driver need →
     length wires ≡ length (takers needs driver need pin drivers) → pin + length drivers ≤ length taken →

@@ -49,7 +49,7 @@ get_or-below n [] k some all = some
 get_or-below n (phase ∷ phases) zero some all = All-head (λ phase. phase < n) phase phases all
 get_or-below n (phase ∷ phases) (suc k) some all = get_or-below n phases k some (All-tail (λ phase. phase < n) phase phases all)
 
-get_or-stages : (n : ℕ) (epochs phases : List ℕ) (k d : ℕ) → k < length epochs → k < length phases → get_or (stages_of n epochs phases) k 0 ≡ stage_of n (get_or epochs k d) (get_or phases k 0)
+pub get_or-stages : (n : ℕ) (epochs phases : List ℕ) (k d : ℕ) → k < length epochs → k < length phases → get_or (stages_of n epochs phases) k 0 ≡ stage_of n (get_or epochs k d) (get_or phases k 0)
 get_or-stages n [] phases k d low within = absurd (omega arith)
 get_or-stages n (epoch ∷ epochs) [] k d low within = absurd (omega arith)
 get_or-stages n (epoch ∷ epochs) (phase ∷ phases) zero d low within = refl

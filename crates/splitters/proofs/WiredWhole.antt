@@ -94,7 +94,7 @@ outlets-some taken pin (From driver ∷ ends) h = absurd (true≢false h)
 
 -- ---- drivers that are there
 
-ends-reached : (inputs gates : ℕ) (ends : List End) → All (IsEndThere inputs gates) ends → AreReached (before_gate gates) (flat_map end_drivers ends)
+pub ends-reached : (inputs gates : ℕ) (ends : List End) → All (IsEndThere inputs gates) ends → AreReached (before_gate gates) (flat_map end_drivers ends)
 ends-reached inputs gates [] all = tt
 ends-reached inputs gates (False ∷ ends) all = ends-reached inputs gates ends (All-tail (IsEndThere inputs gates) False ends all)
 ends-reached inputs gates (True ∷ ends) all = ends-reached inputs gates ends (All-tail (IsEndThere inputs gates) True ends all)
@@ -114,15 +114,15 @@ gates-from inputs gate (row ∷ rows) h =
     )
 
 -- a driver is no input past the last
-abbrev InputThere : ℕ → Driver → Type 0
+abbrev pub InputThere : ℕ → Driver → Type 0
 InputThere inputs (Input i) = i < inputs
 InputThere inputs (Gate k) = ⊤
 
-abbrev InputsThere : ℕ → List Driver → Type 0
+abbrev pub InputsThere : ℕ → List Driver → Type 0
 InputsThere inputs [] = ⊤
 InputsThere inputs (driver ∷ drivers) = InputThere inputs driver × InputsThere inputs drivers
 
-InputsThere-append : (inputs : ℕ) (xs ys : List Driver) → InputsThere inputs xs → InputsThere inputs ys → InputsThere inputs (xs ++ ys)
+pub InputsThere-append : (inputs : ℕ) (xs ys : List Driver) → InputsThere inputs xs → InputsThere inputs ys → InputsThere inputs (xs ++ ys)
 InputsThere-append inputs [] ys before rest = rest
 InputsThere-append inputs (x ∷ xs) ys before rest = (before.0, InputsThere-append inputs xs ys before.1 rest)
 
@@ -134,12 +134,12 @@ inputs-row : (inputs gates : ℕ) (drivers : List Driver) → All (IsThere input
 inputs-row inputs gates [] all = tt
 inputs-row inputs gates (driver ∷ drivers) all = (there-input inputs gates driver (All-head (IsThere inputs gates) driver drivers all), inputs-row inputs gates drivers (All-tail (IsThere inputs gates) driver drivers all))
 
-inputs-rows : (inputs gate : ℕ) (rows : List GateRow) → AreGatesFrom inputs gate rows → InputsThere inputs (flat_map (λ (row : GateRow). row.pins) rows)
+pub inputs-rows : (inputs gate : ℕ) (rows : List GateRow) → AreGatesFrom inputs gate rows → InputsThere inputs (flat_map (λ (row : GateRow). row.pins) rows)
 inputs-rows inputs gate [] gates = tt
 inputs-rows inputs gate (row ∷ rows) gates =
     InputsThere-append inputs row.pins (flat_map (λ (row : GateRow). row.pins) rows) (inputs-row inputs gate row.pins gates.0.drivers) (inputs-rows inputs (gate + 1) rows gates.1)
 
-inputs-ends : (inputs gates : ℕ) (ends : List End) → All (IsEndThere inputs gates) ends → InputsThere inputs (flat_map end_drivers ends)
+pub inputs-ends : (inputs gates : ℕ) (ends : List End) → All (IsEndThere inputs gates) ends → InputsThere inputs (flat_map end_drivers ends)
 inputs-ends inputs gates [] all = tt
 inputs-ends inputs gates (False ∷ ends) all = inputs-ends inputs gates ends (All-tail (IsEndThere inputs gates) False ends all)
 inputs-ends inputs gates (True ∷ ends) all = inputs-ends inputs gates ends (All-tail (IsEndThere inputs gates) True ends all)
@@ -147,7 +147,7 @@ inputs-ends inputs gates (From driver ∷ ends) all =
     (there-input inputs gates driver (All-head (IsEndThere inputs gates) (From driver) ends all), inputs-ends inputs gates ends (All-tail (IsEndThere inputs gates) (From driver) ends all))
 
 -- behind the last input the first gate's turn comes
-Agree-first : (inputs : ℕ) (needs : List ℕ) (pin : ℕ) (drivers : List Driver) → InputsThere inputs drivers → Agree (by_driver (before_input (0 + inputs))) (by_driver (before_gate 0)) needs pin drivers
+pub Agree-first : (inputs : ℕ) (needs : List ℕ) (pin : ℕ) (drivers : List Driver) → InputsThere inputs drivers → Agree (by_driver (before_input (0 + inputs))) (by_driver (before_gate 0)) needs pin drivers
 Agree-first inputs needs pin [] there = tt
 Agree-first inputs needs pin (driver ∷ drivers) there = (by driver there.0, Agree-first inputs needs (pin + 1) drivers there.1)
   where
@@ -161,12 +161,12 @@ held-none marks needs taken pin [] none = refl
 held-none marks needs taken pin (driver ∷ drivers) none =
     ap (λ b. with_pin b (get_or taken pin 0) (held marks needs taken (pin + 1) drivers)) (none driver (get_or needs pin 0)) ∙ held-none marks needs taken (pin + 1) drivers none
 
-AreStaged-none : (made : Wires ℕ) (stage : Driver → ℕ → ℕ) (marks : Marks) (needs taken : List ℕ) (pin : ℕ) (drivers : List Driver) → ((driver : Driver) (need : ℕ) → marks driver need ≡ false) → AreStaged made stage marks needs taken pin drivers
+pub AreStaged-none : {A : Type 0} (made : Wires A) (stage : Driver → ℕ → A) (marks : Marks) (needs taken : List ℕ) (pin : ℕ) (drivers : List Driver) → ((driver : Driver) (need : ℕ) → marks driver need ≡ false) → AreStaged made stage marks needs taken pin drivers
 AreStaged-none made stage marks needs taken pin [] none = tt
 AreStaged-none made stage marks needs taken pin (driver ∷ drivers) none =
     (λ e. absurd (true≢false (sym e ∙ none driver (get_or needs pin 0))), AreStaged-none made stage marks needs taken (pin + 1) drivers none)
 
-before_input-none : (driver : Driver) → before_input 0 driver ≡ false
+pub before_input-none : (driver : Driver) → before_input 0 driver ≡ false
 before_input-none (Input i) = le-ltb i 0 (omega arith)
 before_input-none (Gate k) = refl
 

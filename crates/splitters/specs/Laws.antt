@@ -1,9 +1,8 @@
 -- What is proved of the netlist of gates with shared chains.
-use Rattle.std.specs.Prelude.{◌≡◌, ◌≤◌, ℕ, zero, suc, ◌+◌, ◌-◌, ◌*◌, Bool, true, false, cond, List, [], ◌∷◌, length, slice_index, ⊤, flat_map}
+use Rattle.std.specs.Prelude.{◌≡◌, ◌≤◌, ℕ, ◌+◌, ◌*◌, Bool, true, false, cond, List, [], ◌∷◌, length, slice_index, ⊤, flat_map}
 use Rattle.cell_lib.specs.declared.cell.Cell.{Cell}
 use Rattle.cell_lib.specs.declared.cell.Cell.TheVariants.{Dro, Not, And, Or, Xor}
 use Rattle.gate_net.specs.declared.row.Driver.{Driver}
-use Rattle.gate_net.specs.declared.row.Driver.TheVariants.{Input, Gate}
 use Rattle.gate_net.specs.declared.row.GateRow.{GateRow}
 use Rattle.gate_net.specs.Net.{pin_drivers, end_drivers, IsGateNet, EachGateIsUsed}
 use Rattle.pulse_net.specs.declared.net.Element.{Element}
@@ -11,13 +10,15 @@ use Rattle.pulse_net.specs.declared.net.Element.TheVariants.{Clocked, Split}
 use Rattle.pulse_net.specs.declared.net.Names.{Names}
 use Rattle.pulse_net.specs.Wired.{IsInTime}
 use Rattle.pulse_net.specs.Validity.{IsValid}
+use Rattle.pulse_net.specs.Unfolding.{unfolded}
 use Rattle.gate_net.specs.declared.net.GateNet.{GateNet}
 use Rattle.flow_net.specs.declared.net.Epochs.{Epochs}
 use Rattle.flow_net.specs.Network.{network_of}
 use Rattle.flow_net.specs.Epochs.{dro_count}
 use Rattle.dro_chains.specs.Chains.{HasChains, chained_of}
 use Rattle.dro_chains.specs.declared.chain.Chained.{Chained}
-use Rattle.splitters.specs.Taps.{driver_stage, taps_of}
+use Rattle.dro_chains.specs.declared.chain.TheConstants.{MAX_DROS}
+use Rattle.splitters.specs.Taps.{driver_stage, chain_dros, CanSplit}
 use Rattle.splitters.specs.Elements.{gate_pins, elements_of}
 
 -- the stage of a tap: n stages for each DRO behind its driver
@@ -61,6 +62,12 @@ LayoutIsValid = (chained : Chained) (names : Names) → KeepsTime chained → Ha
 abbrev pub ChainsKeepTime : Type 0
 ChainsKeepTime = (net : GateNet) (phases : List ℕ) (n : ℕ) (epochs : Epochs) → HasChains net phases n epochs → KeepsTime (chained_of net phases n epochs)
 
+-- The chains of balanced epochs can be laid out, where they have no more DROs than `chains` allows.
+abbrev pub ChainsCanBeSplit : Type 0
+ChainsCanBeSplit =
+    (net : GateNet) (phases : List ℕ) (n : ℕ) (epochs : Epochs) → HasChains net phases n epochs
+    → dro_count (network_of net phases) epochs ≤ MAX_DROS → CanSplit (chained_of net phases n epochs)
+
 -- So they are laid out as a valid netlist.
 abbrev pub ChainsAreValid : Type 0
 ChainsAreValid =
@@ -81,23 +88,22 @@ dros [] = 0
 dros (Clocked cell stage pins out ∷ elements) = cond (is_dro cell) 1 0 + dros elements
 dros (Split from left right ∷ elements) = dros elements
 
--- the chains of so many inputs from one on have so many DROs, and so have those of gates
-abbrev pub input_dros : Chained → ℕ → ℕ → ℕ
-input_dros chained input zero = 0
-input_dros chained input (suc more) = length (taps_of chained (Input input)) - 1 + input_dros chained (input + 1) more
-
-abbrev pub gate_dros : Chained → ℕ → ℕ → ℕ
-gate_dros chained gate zero = 0
-gate_dros chained gate (suc more) = length (taps_of chained (Gate gate)) - 1 + gate_dros chained (gate + 1) more
-
 -- There are as many DROs as the chains are long: a driver's has one for each tap behind its first.
 abbrev pub DrosAreTheChains : Type 0
 DrosAreTheChains =
     (chained : Chained) (names : Names) → IsGateNet chained.gates
-    → dros (elements_of chained names).elements ≡ input_dros chained 0 chained.gates.inputs + gate_dros chained 0 (length chained.gates.gates)
+    → dros (elements_of chained names).elements ≡ chain_dros chained
 
 -- The chains of a netlist are laid out with as many DROs as their count says.
 abbrev pub DrosAreTheCount : Type 0
 DrosAreTheCount =
     (net : GateNet) (phases : List ℕ) (n : ℕ) (epochs : Epochs) (names : Names) → HasChains net phases n epochs
     → dros (elements_of (chained_of net phases n epochs) names).elements ≡ dro_count (network_of net phases) epochs
+
+-- The netlist of a netlist's chains unfolds to the gates, the phases and the epochs that the chains were made for, with as
+-- many DROs as the DRO count.
+abbrev pub ChainsUnfold : Type 0
+ChainsUnfold =
+    (net : GateNet) (phases : List ℕ) (n : ℕ) (epochs : Epochs) (names : Names) → HasChains net phases n epochs
+    → unfolded (elements_of (chained_of net phases n epochs) names)
+    ≡ record { gates = net; phases = phases; epochs = epochs; dros = dro_count (network_of net phases) epochs }

@@ -1,5 +1,5 @@
 -- The taps of a driver: itself and the DROs of its chain, each with the pins that take from it.
-use Rattle.std.specs.Prelude.{◌<◌, ◌≡◌, ◌^◌, ◌*◌, ◌+◌, ◌++◌, ◌&&◌, ◌==◌, ℕ, zero, suc, Bool, true, false, cond, max, List, [], ◌∷◌, length, slice_index, slice_index_or}
+use Rattle.std.specs.Prelude.{◌<◌, ◌≡◌, ◌^◌, ◌*◌, ◌+◌, ◌-◌, ◌++◌, ◌&&◌, ◌==◌, ℕ, zero, suc, Bool, true, false, cond, max, List, [], ◌∷◌, length, slice_index, slice_index_or}
 use Rattle.std.specs.List.{list_any}
 use Rattle.gate_net.specs.declared.row.Driver.{Driver}
 use Rattle.gate_net.specs.declared.row.Driver.TheVariants.{Input, Gate}
@@ -59,6 +59,10 @@ pub record Gathers (inputs gates : ℕ) (needs : List ℕ) (drivers : List Drive
 abbrev pub HasTaps : ℕ → ℕ → List ℕ → List Driver → List (List (List ℕ)) → Type 0
 HasTaps inputs gates needs drivers table = (driver : Driver) → IsThere inputs gates driver → slice_index_or table (slot inputs driver) [] ≡ taps_at needs drivers driver
 
+-- the table has the length of each driver's chain, its largest need
+abbrev pub HasLengths : ℕ → ℕ → List ℕ → List Driver → List ℕ → Type 0
+HasLengths inputs gates needs drivers lengths = (driver : Driver) → IsThere inputs gates driver → slice_index lengths (slot inputs driver) ≡ tap_count needs driver 0 drivers - 1
+
 -- the stage of a driver: 0 of an input, and a gate's own
 abbrev pub driver_stage : Chained → Driver → ℕ
 driver_stage chained (Input i) = 0
@@ -70,11 +74,31 @@ StagesFit chained =
     (pin : ℕ) (d : Driver) → pin < length (pin_drivers chained.gates)
     → driver_stage chained (slice_index_or (pin_drivers chained.gates) pin d) + chained.n * slice_index chained.needs pin < 2 ^ 32
 
--- which gates with shared chains can be laid out: well formed, with fewer than 2 ^ 31 pins and stages that fit
+-- so many inputs from one on have so many DROs in their chains, one for each tap behind the first
+abbrev pub input_dros : Chained → ℕ → ℕ → ℕ
+input_dros chained input zero = 0
+input_dros chained input (suc more) = length (taps_of chained (Input input)) - 1 + input_dros chained (input + 1) more
+
+-- and so many have gates
+abbrev pub gate_dros : Chained → ℕ → ℕ → ℕ
+gate_dros chained gate zero = 0
+gate_dros chained gate (suc more) = length (taps_of chained (Gate gate)) - 1 + gate_dros chained (gate + 1) more
+
+-- how many DROs the chains of all drivers have
+abbrev pub chain_dros : Chained → ℕ
+chain_dros chained = input_dros chained 0 chained.gates.inputs + gate_dros chained 0 (length chained.gates.gates)
+
+-- The numbers of wires fit 32 bits: each DRO and each gate makes one wire, and used inputs and splitters make two at most
+-- for each pin. The last 2 is room for one more target, since a spread asks for two wires a target.
+abbrev pub FewWires : Chained → Type 0
+FewWires chained = chain_dros chained + 2 * length (pin_drivers chained.gates) + length chained.gates.gates + 2 < 2 ^ 32
+
+-- which gates with shared chains can be laid out: well formed, with fewer than 2 ^ 31 pins, stages that fit and few wires
 pub record CanSplit (chained : Chained) : Type 0 where
   pub formed : IsGateNet chained.gates
   pub few_pins : length (pin_drivers chained.gates) < 2 ^ 31
   pub stages : StagesFit chained
+  pub few_wires : FewWires chained
 
 -- gates with their chains and the table of their taps, of which the pins and the stages fit
 pub record IsTapped (chained : Chained) (table : List (List (List ℕ))) : Type 0 where

@@ -139,6 +139,7 @@ fn lay_out(
     requires inputs { inputs.now ≡ inputs_of chained.now }
     requires each { length inputs.now ≡ chained.now.gates.inputs }
     requires pins { pins ≡ length (pin_drivers chained.now.gates) }
+    requires room { (layout_of chained.now).next + 2 < 2 ^ 32 }
     ensures { IfOk result (λ layout. layout ≡ layout_of chained.now) }
 {
     let _inputs = chained.gates.inputs;
@@ -158,7 +159,7 @@ fn output_wires(alloc: Global, chained: &Chained, taken: &[u32]) -> Result<Vec<O
     outlets(alloc, taken, first, chained.gates.outputs.as_slice())
 }
 
-/// The netlist of gates with shared chains: splitter trees, DROs and wires.
+/// The netlist of gates with shared chains: splitter trees, DROs and wires. It fails only where a request for memory does.
 pub fn split(alloc: Global, chained: Chained, names: Names) -> Result<PulseNet, NoMemory>
     requires { CanSplit chained }
     ensures { IfOk result (λ net. net ≡ elements_of chained names) }

@@ -38,6 +38,7 @@ fn lay_chain(
     requires tapped { IsTapped chained.now table.now }
     requires there { IsThere chained.now.gates.inputs (length chained.now.gates.gates) driver }
     requires pins { length layout.old.taken ≡ length (pin_drivers chained.now.gates) }
+    requires room { (with_chain chained.now.n (driver_stage chained.now driver) wire (taps_of chained.now driver) layout.old).next + 2 < 2 ^ 32 }
     ensures ok { OnOk result (layout.new ≡ with_chain chained.now.n (driver_stage chained.now driver) wire (taps_of chained.now driver) layout.old) }
     ensures pins { OnOk result (length layout.new.taken ≡ length layout.old.taken) }
 {
@@ -62,6 +63,7 @@ pub(crate) fn lay_inputs(
     requires tapped { IsTapped chained.now table.now }
     requires inputs { length wires.now ≡ chained.now.gates.inputs }
     requires pins { length layout.old.taken ≡ length (pin_drivers chained.now.gates) }
+    requires room { (with_inputs chained.now 0 wires.now layout.old).next + 2 < 2 ^ 32 }
     ensures ok { OnOk result (layout.new ≡ with_inputs chained.now 0 wires.now layout.old) }
     ensures pins { OnOk result (length layout.new.taken ≡ length layout.old.taken) }
 {
@@ -88,6 +90,7 @@ fn lay_gate(
     requires gate { gate < length chained.now.gates.gates }
     requires pin { pin + length row.now.pins ≤ length layout.old.taken }
     requires pins { length layout.old.taken ≡ length (pin_drivers chained.now.gates) }
+    requires room { (with_gate chained.now gate pin row.now layout.old).next + 2 < 2 ^ 32 }
     ensures ok { OnOk result (layout.new ≡ with_gate chained.now gate pin row.now layout.old) }
     ensures pins { OnOk result (length layout.new.taken ≡ length layout.old.taken) }
 {
@@ -106,6 +109,7 @@ pub(crate) fn lay_gates(
 ) -> Result<(), NoMemory>
     requires tapped { IsTapped chained.now table.now }
     requires pins { length layout.old.taken ≡ length (pin_drivers chained.now.gates) }
+    requires room { (with_gates chained.now 0 0 chained.now.gates.gates layout.old).next + 2 < 2 ^ 32 }
     ensures ok { OnOk result (layout.new ≡ with_gates chained.now 0 0 chained.now.gates.gates layout.old) }
     ensures pins { OnOk result (length layout.new.taken ≡ length layout.old.taken) }
 {

@@ -1,6 +1,6 @@
 //! What the layout of gates with shared chains means, as laws. A law takes nothing and does nothing: its clause is the law.
 
-ghost use Rattle.splitters.specs.Laws.{ChainsAreValid, ChainsKeepTime, DrosAreTheChains, DrosAreTheCount, LayoutIsValid};
+ghost use Rattle.splitters.specs.Laws.{ChainsAreValid, ChainsCanBeSplit, ChainsKeepTime, ChainsUnfold, DrosAreTheChains, DrosAreTheCount, LayoutIsValid};
 
 /// Where each gate has a use, and each pin takes from its tap 1 to n ticks before its gate or before the reading, the
 /// netlist of gates with shared chains is valid: each wire is made once and used once, and each is read in time.
@@ -11,6 +11,12 @@ pub fn layout_is_valid()
 /// The chains of balanced epochs keep time: the DROs that a pin needs leave 1 to n ticks to its user.
 pub fn chains_keep_time()
     ensures { ChainsKeepTime }
+{}
+
+/// The answer of `chains` for balanced epochs can be laid out: each tap stands before its user, whose stage fits, and with
+/// at most `MAX_DROS` DROs, of which `chains` never makes more, the wires are few.
+pub fn chains_can_be_split()
+    ensures { ChainsCanBeSplit }
 {}
 
 /// The answer of `chains` for balanced epochs is laid out as a valid netlist, where each input and output has its name.
@@ -26,4 +32,10 @@ pub fn dros_are_the_chains()
 /// The answer of `chains` for balanced epochs is laid out with as many DROs as the DRO count of the epochs.
 pub fn dros_are_the_count()
     ensures { DrosAreTheCount }
+{}
+
+/// The answer of `chains` for balanced epochs is laid out as a netlist that unfolds to the gates, the phases and the epochs
+/// that it was made for, with as many DROs as the DRO count of the epochs.
+pub fn chains_unfold()
+    ensures { ChainsUnfold }
 {}

@@ -27,17 +27,6 @@ impl Model for Layout {
     ghost view = { λ layout. record { next = layout.next; elements = layout.elements.items; taken = layout.taken.items } };
 }
 
-// How many targets there are, if there are numbers for their wires.
-fn room(next: u32, targets: usize) -> Result<u32, NoMemory>
-    ensures count { IfOk result (λ count. count ≡ targets) }
-    ensures room { OnOk result (next + 2 * targets < 2 ^ 32) }
-{
-    if targets > ((u32::MAX - next) / 2) as usize {
-        return Err(NoMemory);
-    }
-    Ok(targets as u32)
-}
-
 // Each pin takes its wire.
 fn take_wires(taken: &mut Vec<u32>, pins: &[u32], wires: &[u32])
     requires each { length wires.now ≡ length pins.now }
@@ -64,11 +53,12 @@ impl Layout {
 
     /// A clocked element that makes the next wire, and that wire.
     pub(crate) fn cell(&mut self, cell: Cell, stage: u32, pins: List<u32>) -> Result<u32, NoMemory>
+        requires { self.old.next + 1 < 2 ^ 32 }
         ensures ok { OnOk result (self.new ≡ with_cell cell stage pins self.old) }
         ensures wire { IfOk result (λ wire. wire ≡ self.old.next) }
     {
         let out = self.next;
-        self.next = out.checked_add(1).ok_or(NoMemory)?;
+        self.next = out + 1;
         self.elements.push(Element::Clocked {
             cell,
             stage,
@@ -116,11 +106,12 @@ impl Layout {
 
     // Spreads a wire over targets, and answers their wires.
     fn spread(&mut self, alloc: Global, wire: u32, targets: usize) -> Result<Vec<u32>, NoMemory>
+        requires { self.old.next + 2 * targets < 2 ^ 32 }
         ensures ok { OnOk result (self.new ≡ with_spread wire targets self.old) }
         ensures wires { IfOk result (λ wires. wires.items ≡ spread_wires wire self.old.next targets) }
         ensures count { IfOk result (λ wires. length wires.items ≡ targets) }
     {
-        let count = room(self.next, targets)?;
+        let count = targets as u32;
         let mut wires = Vec::with_capacity(alloc, targets)?;
         spread(&mut self.elements, &mut wires, wire, self.next, count)?;
         self.next += 2 * count.saturating_sub(1);
@@ -129,7 +120,8 @@ impl Layout {
 
     // The last wire of a chain is spread over its pins.
     fn last(&mut self, alloc: Global, wire: u32, pins: &[u32]) -> Result<(), NoMemory>
-        requires { All (λ pin. pin < length self.old.taken) pins.now }
+        requires below { All (λ pin. pin < length self.old.taken) pins.now }
+        requires room { (with_last wire pins.now self.old).next + 2 < 2 ^ 32 }
         ensures ok { OnOk result (self.new ≡ with_last wire pins.now self.old) }
         ensures pins { OnOk result (length self.new.taken ≡ length self.old.taken) }
     {
@@ -140,7 +132,8 @@ impl Layout {
 
     // A wire is spread over the next DRO, at a stage, and pins. The wire that the DRO makes.
     fn dro(&mut self, alloc: Global, stage: u32, wire: u32, pins: &[u32]) -> Result<u32, NoMemory>
-        requires { All (λ pin. pin < length self.old.taken) pins.now }
+        requires below { All (λ pin. pin < length self.old.taken) pins.now }
+        requires room { (with_dro stage wire pins.now self.old).next + 2 < 2 ^ 32 }
         ensures ok { OnOk result (self.new ≡ with_dro stage wire pins.now self.old) }
         ensures wire { IfOk result (λ out. out ≡ (with_tap wire pins.now self.old).next) }
         ensures pins { OnOk result (length self.new.taken ≡ length self.old.taken) }
@@ -162,6 +155,7 @@ impl Layout {
     ) -> Result<(), NoMemory>
         requires below { All (λ pins. All (λ pin. pin < length self.old.taken) pins) taps.now }
         requires fits { stage + n * (length taps.now - 1) < 2 ^ 32 }
+        requires room { (with_chain n stage wire taps.now self.old).next + 2 < 2 ^ 32 }
         ensures ok { OnOk result (self.new ≡ with_chain n stage wire taps.now self.old) }
         ensures pins { OnOk result (length self.new.taken ≡ length self.old.taken) }
     {

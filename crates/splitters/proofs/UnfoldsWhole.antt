@@ -1,0 +1,171 @@
+-- The netlist of chains unfolds to the gates that the chains were made for, with their phases, epochs and DROs.
+use Rattle.std.proofs.Common.{◌≡◌, ◌<◌, ℕ, zero, suc, ◌+◌, ◌/◌, ◌%◌, List, [], ◌∷◌, length, get_or, map, replicate, All, refl, ap, subst, ◌∙◌, arith}
+use Rattle.std.proofs.lemmas.List.{length-replicate, length_push}
+use Rattle.std.proofs.lemmas.List.Elements.{All-head, All-tail}
+use Rattle.std.proofs.Math.Nat.{mul_comm}
+use Rattle.std.proofs.lemmas.Nat.{div-mul-add, mod-mul-add}
+use Rattle.std.specs.Prelude.{flat_map, slice_index}
+use Rattle.cell_lib.specs.declared.cell.Cell.TheVariants.{Dro, Not, And, Or, Xor}
+use Rattle.gate_net.specs.declared.row.Driver.{Driver}
+use Rattle.gate_net.specs.declared.row.End.{End}
+use Rattle.gate_net.specs.declared.row.End.TheVariants.{Zero, One, From}
+use Rattle.gate_net.specs.declared.row.GateRow.{GateRow}
+use Rattle.gate_net.specs.Net.{IsGate, IsGateNet, EachGateIsUsed, pin_drivers, end_drivers}
+use Rattle.phase_rule.specs.Stages.{stage_of}
+use Rattle.pulse_net.specs.declared.net.Element.{Element}
+use Rattle.pulse_net.specs.declared.net.Element.TheVariants.{Clocked, Split}
+use Rattle.pulse_net.specs.Wires.{Wires}
+use Rattle.pulse_net.specs.Unfolding.{Unfolding, driver_of, dro_driver, end_of, phases_of, epochs_of, nothing_unfolded, unfold_element, unfold_elements, unfold_inputs, unfolding_of}
+use Rattle.flow_net.specs.Network.{network_of}
+use Rattle.flow_net.specs.Epochs.{dro_count}
+use Rattle.dro_chains.specs.declared.chain.Chained.{Chained}
+use Rattle.dro_chains.specs.Chains.{chained_of, stages_of}
+use Rattle.splitters.specs.Elements.{with_inputs, gate_pins, outlets, wire_count, inputs_of, empty_layout, layout_of, elements_of}
+use Rattle.splitters.specs.Laws.{dros, ChainsUnfold}
+use Rattle.splitters.proofs.WiredPins.{AreStaged}
+use Rattle.splitters.proofs.WiredChains.{by_driver}
+use Rattle.splitters.proofs.WiredGates.{AreReached, before_gate, AreGatesFrom, tap_count-gate}
+use Rattle.splitters.proofs.WiredInputs.{length-input_wires, before_input}
+use Rattle.splitters.proofs.WiredWhole.{gates-from, ends-reached, InputsThere, InputsThere-append, inputs-rows, inputs-ends, Agree-first, AreStaged-none, before_input-none}
+use Rattle.splitters.proofs.WiredCount.{dros_are_the_count}
+use Rattle.splitters.proofs.UnfoldsWires.{driver_of-found, AreKept-same}
+use Rattle.splitters.proofs.UnfoldsChains.{its_driver, Drives, Drives-agree}
+use Rattle.splitters.proofs.UnfoldsGates.{Adds, stages_from, Adds-gates}
+use Rattle.splitters.proofs.UnfoldsInputs.{AreMade, AreMade-inputs, Drives-inputs}
+
+-- what is known behind the inputs
+abbrev pub after_inputs : Chained → Unfolding
+after_inputs chained = unfold_inputs 0 (inputs_of chained) nothing_unfolded
+
+-- each used input has its wire, and no other wire is made
+made-inputs : (chained : Chained) → AreMade nothing_unfolded (after_inputs chained) (wire_count (inputs_of chained)) 0 (inputs_of chained)
+made-inputs chained =
+    let e : 0 + wire_count (inputs_of chained) ≡ wire_count (inputs_of chained) = omega arith in
+    subst (λ n. AreMade nothing_unfolded (after_inputs chained) n 0 (inputs_of chained)) e (AreMade-inputs chained 0 0 chained.gates.inputs nothing_unfolded (λ wire high. refl))
+
+-- nothing is laid out yet
+Drives-empty : (chained : Chained) → Drives (after_inputs chained) chained.needs 0 (pin_drivers chained.gates) (by_driver (before_input 0)) (empty_layout chained)
+Drives-empty chained =
+    let taken : List ℕ = replicate (length (pin_drivers chained.gates)) 0 in
+    let many : length taken ≡ length (pin_drivers chained.gates) = length-replicate {A = ℕ} (length (pin_drivers chained.gates)) 0 in
+    record {
+      fresh = (made-inputs chained).fresh;
+      driven = AreStaged-none (after_inputs chained).wires its_driver (by_driver (before_input 0)) chained.needs taken 0 (pin_drivers chained.gates) (λ driver need. before_input-none driver);
+      room = omega (arith, many);
+    }
+
+-- Behind the last gate the rows are the gates, in order, and each pin of an output takes a wire of its driver.
+Adds-layout : (chained : Chained) → IsGateNet chained.gates → EachGateIsUsed chained.gates →
+    Adds chained (after_inputs chained) (gate_pins chained.gates.gates) (flat_map end_drivers chained.gates.outputs) (length chained.gates.gates) chained.gates.gates
+    (stages_from chained.stages 0 (length chained.gates.gates)) (layout_of chained)
+Adds-layout chained formed used =
+    let inputs = chained.gates.inputs in
+    let rows = chained.gates.gates in
+    let outs = flat_map end_drivers chained.gates.outputs in
+    let all = pin_drivers chained.gates in
+    let start = after_inputs chained in
+    let stages = stages_from chained.stages 0 (length rows) in
+    let first = made-inputs chained in
+    let gates : AreGatesFrom inputs 0 rows = gates-from inputs 0 rows (λ place d low. let z : place ≡ 0 + place = omega arith in subst (λ g. IsGate inputs g (get_or rows place d)) z (formed.gates place d low)) in
+    let laid = Drives-inputs chained start 0 0 inputs (empty_layout chained) first.made (AreKept-same start) (Drives-empty chained) in
+    let layout = with_inputs chained 0 (inputs_of chained) (empty_layout chained) in
+    let there : InputsThere inputs all = InputsThere-append inputs (flat_map (λ (row : GateRow). row.pins) rows) outs (inputs-rows inputs 0 rows gates) (inputs-ends inputs (length rows) chained.gates.outputs formed.outputs) in
+    let begun : Adds chained start 0 all 0 [] [] layout = record {
+      drives = Drives-agree start chained.needs 0 all (by_driver (before_input (0 + inputs))) (by_driver (before_gate 0)) layout (Agree-first inputs chained.needs 0 all there) laid.drives;
+      gates = laid.kept.gates ∙ first.kept.gates;
+      stages = laid.kept.stages ∙ first.kept.stages;
+    } in
+    let done = Adds-gates chained start [] outs 0 0 rows layout [] [] refl refl refl gates (λ later low. tt)
+    (λ k low high. tap_count-gate chained k (used k (omega arith))) begun in
+    let p : 0 + gate_pins rows ≡ gate_pins rows = omega arith in
+    let g : 0 + length rows ≡ length rows = omega arith in
+    subst (λ k. Adds chained start (gate_pins rows) outs k rows stages (layout_of chained)) g
+    (subst (λ k. Adds chained start k outs (0 + length rows) rows stages (layout_of chained)) p done)
+
+-- an outlet gives what its output gives
+outlets-ends : (made : Wires Driver) (needs taken : List ℕ) (gates pin : ℕ) (ends : List End) → AreReached (before_gate gates) (flat_map end_drivers ends) →
+    AreStaged made its_driver (by_driver (before_gate gates)) needs taken pin (flat_map end_drivers ends) → map (end_of made) (outlets taken pin ends) ≡ ends
+outlets-ends made needs taken gates pin [] all h = refl
+outlets-ends made needs taken gates pin (Zero ∷ ends) all h = ap (λ (es : List End). Zero ∷ es) (outlets-ends made needs taken gates pin ends all h)
+outlets-ends made needs taken gates pin (One ∷ ends) all h = ap (λ (es : List End). One ∷ es) (outlets-ends made needs taken gates pin ends all h)
+outlets-ends made needs taken gates pin (From driver ∷ ends) all h =
+    (λ i. From (driver_of-found made (get_or taken pin 0) driver (h.0 all.0) i) ∷ outlets-ends made needs taken gates (pin + 1) ends all.1 h.1 i)
+
+-- as many DROs are passed as there are among the elements
+dros-passed : (elements : List Element) (so : Unfolding) → length (unfold_elements elements so).dros ≡ length so.dros + dros elements
+dros-passed [] so = omega arith
+dros-passed (Split from left right ∷ elements) so = dros-passed elements (unfold_element (Split from left right) so)
+dros-passed (Clocked Dro stage pins out ∷ elements) so =
+    let rest = dros-passed elements (unfold_element (Clocked Dro stage pins out) so) in
+    let one = length_push so.dros (dro_driver (map (driver_of so.wires) pins)) in
+    omega (arith, rest, one)
+dros-passed (Clocked Not stage pins out ∷ elements) so = let rest = dros-passed elements (unfold_element (Clocked Not stage pins out) so) in omega (arith, rest)
+dros-passed (Clocked And stage pins out ∷ elements) so = let rest = dros-passed elements (unfold_element (Clocked And stage pins out) so) in omega (arith, rest)
+dros-passed (Clocked Or stage pins out ∷ elements) so = let rest = dros-passed elements (unfold_element (Clocked Or stage pins out) so) in omega (arith, rest)
+dros-passed (Clocked Xor stage pins out ∷ elements) so = let rest = dros-passed elements (unfold_element (Clocked Xor stage pins out) so) in omega (arith, rest)
+
+-- ---- stages
+
+stages_from-later : (stages : List ℕ) (stage gate more : ℕ) → stages_from (stage ∷ stages) (gate + 1) more ≡ stages_from stages gate more
+stages_from-later stages stage gate zero = refl
+stages_from-later stages stage gate (suc more) =
+    let e : gate + 1 ≡ suc gate = omega arith in
+    (λ i. slice_index (stage ∷ stages) (e i) ∷ stages_from-later stages stage (gate + 1) more i)
+
+stages_from-all : (stages : List ℕ) → stages_from stages 0 (length stages) ≡ stages
+stages_from-all [] = refl
+stages_from-all (stage ∷ stages) = ap (λ (ss : List ℕ). stage ∷ ss) (stages_from-later stages stage 0 (length stages) ∙ stages_from-all stages)
+
+length-stages : (n : ℕ) (epochs phases : List ℕ) → length epochs ≡ length phases → length (stages_of n epochs phases) ≡ length epochs
+length-stages n [] phases each = refl
+length-stages n (epoch ∷ epochs) [] each = absurd (omega arith)
+length-stages n (epoch ∷ epochs) (phase ∷ phases) each = ap suc (length-stages n epochs phases (omega arith))
+
+-- a stage gives back its phase and its epoch
+phase-back : (n epoch phase : ℕ) → phase < n → stage_of n epoch phase % n ≡ phase
+phase-back n epoch phase low = ap (λ k. (k + phase) % n) (mul_comm n epoch) ∙ mod-mul-add epoch n phase low
+
+epoch-back : (n epoch phase : ℕ) → phase < n → stage_of n epoch phase / n ≡ epoch
+epoch-back n epoch phase low = ap (λ k. (k + phase) / n) (mul_comm n epoch) ∙ div-mul-add epoch n phase low
+
+phases-back : (n : ℕ) (epochs phases : List ℕ) → length epochs ≡ length phases → All (λ phase. phase < n) phases → phases_of n (stages_of n epochs phases) ≡ phases
+phases-back n [] [] each low = refl
+phases-back n [] (phase ∷ phases) each low = absurd (omega arith)
+phases-back n (epoch ∷ epochs) [] each low = absurd (omega arith)
+phases-back n (epoch ∷ epochs) (phase ∷ phases) each low =
+    (λ i. phase-back n epoch phase (All-head (λ phase. phase < n) phase phases low) i ∷ phases-back n epochs phases (omega arith) (All-tail (λ phase. phase < n) phase phases low) i)
+
+epochs-back : (n : ℕ) (epochs phases : List ℕ) → length epochs ≡ length phases → All (λ phase. phase < n) phases → epochs_of n (stages_of n epochs phases) ≡ epochs
+epochs-back n [] phases each low = refl
+epochs-back n (epoch ∷ epochs) [] each low = absurd (omega arith)
+epochs-back n (epoch ∷ epochs) (phase ∷ phases) each low =
+    (λ i. epoch-back n epoch phase (All-head (λ phase. phase < n) phase phases low) i ∷ epochs-back n epochs phases (omega arith) (All-tail (λ phase. phase < n) phase phases low) i)
+
+-- The netlist of chains unfolds to what the chains were made for.
+pub chains_unfold : ChainsUnfold
+chains_unfold net phases n epochs names has =
+    let chained = chained_of net phases n epochs in
+    let formed = has.fits.network.formed in
+    let each : length epochs.gates ≡ length phases = let a = has.fits.each in let b = has.fits.network.phased in omega (arith, a, b) in
+    let low : All (λ phase. phase < n) phases = has.phased.below in
+    let built = Adds-layout chained formed has.used in
+    let layout = layout_of chained in
+    let start = after_inputs chained in
+    let so = unfolding_of (elements_of chained names) in
+    let many : length net.gates ≡ length chained.stages = let a = length-stages n epochs.gates phases each in let b = has.fits.each in omega (arith, a, b) in
+    let stages : so.stages ≡ stages_of n epochs.gates phases = built.stages ∙ ap (stages_from chained.stages 0) many ∙ stages_from-all chained.stages in
+    let inputs = length-input_wires chained 0 0 net.inputs in
+    let outputs : map (end_of so.wires) (outlets layout.taken (gate_pins net.gates) net.outputs) ≡ net.outputs =
+    outlets-ends so.wires chained.needs layout.taken (length net.gates) (gate_pins net.gates) net.outputs (ends-reached net.inputs (length net.gates) net.outputs formed.outputs) built.drives.driven in
+    let its_phases : phases_of n so.stages ≡ phases = ap (phases_of n) stages ∙ phases-back n epochs.gates phases each low in
+    let its_epochs : epochs_of n so.stages ≡ epochs.gates = ap (epochs_of n) stages ∙ epochs-back n epochs.gates phases each low in
+    let passed = dros-passed layout.elements start in
+    let none = ap length (made-inputs chained).dros in
+    let count = dros_are_the_count net phases n epochs names has in
+    let its_dros : length so.dros ≡ dro_count (network_of net phases) epochs = omega (arith, passed, none) ∙ count in
+    λ i. record {
+      gates = record { inputs = inputs i; gates = built.gates i; outputs = outputs i };
+      phases = its_phases i;
+      epochs = record { gates = its_epochs i; sink = epochs.sink };
+      dros = its_dros i;
+    }

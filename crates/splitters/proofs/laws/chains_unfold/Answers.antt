@@ -1,0 +1,5 @@
+use Rattle.splitters.proofs.UnfoldsWhole.{chains_unfold}
+use Rattle.splitters.proofs.laws.chains_unfold.Goals as goal
+
+pub returns : goal.returns
+returns c = chains_unfold
