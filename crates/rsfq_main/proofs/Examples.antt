@@ -1,18 +1,19 @@
 -- Small texts, words and a netlist by hand, with what the definitions say of them by evaluation: a false definition fails here.
-use Rattle.std.proofs.Common.{◌≡◌, [], ◌∷◌, Some, None, codes, refl}
+use Rattle.std.proofs.Common.{◌≡◌, ℕ, List, [], ◌∷◌, Some, None, codes, refl, Err}
 use Rattle.std.specs.Fmt.{digits}
 use Rattle.cell_lib.specs.declared.cell.Cell.TheVariants.{Dro, Not, And}
 use Rattle.pulse_net.specs.declared.net.Element.TheVariants.{Clocked, Split}
 use Rattle.pulse_net.specs.declared.net.Outlet.TheVariants.{Zero, One, Wire}
 use Rattle.pulse_net.specs.declared.net.PulseNet.{PulseNet}
 use Rattle.rsfq_main.specs.declared.design.Design.{Design}
+use Rattle.rsfq_main.specs.declared.design.Table.{Table}
 use Rattle.rsfq_main.specs.declared.fault.Refusal.TheVariants.{NotYet}
 use Rattle.rsfq_main.specs.declared.words.Command.TheVariants.{Map}
-use Rattle.rsfq_main.specs.Words.{command_of}
+use Rattle.rsfq_main.specs.Words.{phases_in, command_of}
 use Rattle.rsfq_main.specs.PlainForm.{name_at, names_at, name_line_at, further_name_at, table_at, tables_of, model_line_at, lines_of, plain_design}
-use Rattle.rsfq_main.specs.PlainRules.{signals_of, tree_signals}
+use Rattle.rsfq_main.specs.PlainRules.{is_circuit}
 use Rattle.rsfq_main.specs.Spelling.{line, model_lines, header_lines, input_lines, output_lines, spelling_of}
-use Rattle.rsfq_main.specs.Run.{refusal_of}
+use Rattle.rsfq_main.specs.Run.{output_of}
 
 -- f = a and not b, as two tables
 abbrev two_tables : Design
@@ -27,38 +28,98 @@ two_tables =
     }
 
 text_of_two_tables : plain_design (codes ".model t\n.inputs a b\n.outputs f\n.names b c\n0 1\n.names a c f\n11 1\n.end\n") ≡ Some two_tables
-unfolding name_at names_at name_line_at further_name_at table_at tables_of model_line_at lines_of plain_design signals_of tree_signals
+unfolding name_at names_at name_line_at further_name_at table_at tables_of model_line_at lines_of plain_design is_circuit
 text_of_two_tables = refl
 
 -- an input may be an output, and no table is needed
 text_without_tables : plain_design (codes ".model t\n.inputs a\n.outputs a\n.end\n") ≡ Some (record { model = codes "t"; inputs = codes "a" ∷ []; outputs = codes "a" ∷ []; tables = [] })
-unfolding name_at names_at name_line_at further_name_at table_at tables_of model_line_at lines_of plain_design signals_of tree_signals
+unfolding name_at names_at name_line_at further_name_at table_at tables_of model_line_at lines_of plain_design is_circuit
 text_without_tables = refl
 
--- the pin b is used twice
-used_twice : refusal_of (codes ".model t\n.inputs a b\n.outputs f g\n.names b f\n0 1\n.names a b g\n11 1\n.end\n") ≡ Some NotYet
-unfolding name_at names_at name_line_at further_name_at table_at tables_of model_line_at lines_of plain_design signals_of tree_signals
-used_twice = refl
+-- a design with the model t
+abbrev design_of : List (List ℕ) → List (List ℕ) → List Table → Design
+design_of inputs outputs tables = record { model = codes "t"; inputs = inputs; outputs = outputs; tables = tables }
+
+abbrev inverter : List ℕ → List ℕ → Table
+inverter pin target = record { cell = Not; pins = pin ∷ []; target = target }
+
+-- both pins of a table may be one signal
+equal_pins : plain_design (codes ".model t\n.inputs a\n.outputs f\n.names a a f\n11 1\n.end\n") ≡ Some (design_of (codes "a" ∷ []) (codes "f" ∷ []) (record { cell = And; pins = codes "a" ∷ codes "a" ∷ []; target = codes "f" } ∷ []))
+unfolding name_at names_at name_line_at further_name_at table_at tables_of model_line_at lines_of plain_design is_circuit
+equal_pins = refl
+
+-- a pin may be an output
+pin_is_output : plain_design (codes ".model t\n.inputs a\n.outputs f g\n.names a f\n0 1\n.names f g\n0 1\n.end\n") ≡ Some (design_of (codes "a" ∷ []) (codes "f" ∷ codes "g" ∷ []) (inverter (codes "a") (codes "f") ∷ inverter (codes "f") (codes "g") ∷ []))
+unfolding name_at names_at name_line_at further_name_at table_at tables_of model_line_at lines_of plain_design is_circuit
+pin_is_output = refl
+
+-- two tables may read one signal
+shared_pin : plain_design (codes ".model t\n.inputs a\n.outputs f g\n.names a f\n0 1\n.names a g\n0 1\n.end\n") ≡ Some (design_of (codes "a" ∷ []) (codes "f" ∷ codes "g" ∷ []) (inverter (codes "a") (codes "f") ∷ inverter (codes "a") (codes "g") ∷ []))
+unfolding name_at names_at name_line_at further_name_at table_at tables_of model_line_at lines_of plain_design is_circuit
+shared_pin = refl
 
 -- the second table has no user
-unused_target : refusal_of (codes ".model t\n.inputs a b\n.outputs f\n.names a f\n0 1\n.names b g\n0 1\n.end\n") ≡ Some NotYet
-unfolding name_at names_at name_line_at further_name_at table_at tables_of model_line_at lines_of plain_design signals_of tree_signals
+unused_target : output_of 1 (codes ".model t\n.inputs a b\n.outputs f\n.names a f\n0 1\n.names b g\n0 1\n.end\n") ≡ Err NotYet
+unfolding name_at names_at name_line_at further_name_at table_at tables_of model_line_at lines_of plain_design is_circuit
 unused_target = refl
 
-empty_text : refusal_of [] ≡ Some NotYet
+-- nothing drives the output g
+undriven_output : output_of 1 (codes ".model t\n.inputs a\n.outputs f g\n.names a f\n0 1\n.end\n") ≡ Err NotYet
+unfolding name_at names_at name_line_at further_name_at table_at tables_of model_line_at lines_of plain_design is_circuit
+undriven_output = refl
+
+-- the pin g is driven only behind its table
+undriven_pin : output_of 1 (codes ".model t\n.inputs a\n.outputs f\n.names g f\n0 1\n.names a g\n0 1\n.end\n") ≡ Err NotYet
+unfolding name_at names_at name_line_at further_name_at table_at tables_of model_line_at lines_of plain_design is_circuit
+undriven_pin = refl
+
+-- the target is an input
+driven_twice : output_of 1 (codes ".model t\n.inputs a b\n.outputs b\n.names a b\n0 1\n.end\n") ≡ Err NotYet
+unfolding name_at names_at name_line_at further_name_at table_at tables_of model_line_at lines_of plain_design is_circuit
+driven_twice = refl
+
+empty_text : output_of 1 [] ≡ Err NotYet
 unfolding model_line_at lines_of plain_design
 empty_text = refl
 
-map_alone : command_of (codes "map" ∷ []) ≡ Some Map
+map_alone : command_of (codes "map" ∷ []) ≡ Some (Map 1)
+unfolding digits phases_in command_of
 map_alone = refl
 
-one_phase : command_of (codes "map" ∷ codes "phases=1" ∷ []) ≡ Some Map
+one_phase : command_of (codes "map" ∷ codes "phases=1" ∷ []) ≡ Some (Map 1)
+unfolding digits phases_in command_of
 one_phase = refl
 
+sixteen_phases : command_of (codes "map" ∷ codes "phases=16" ∷ []) ≡ Some (Map 16)
+unfolding digits phases_in command_of
+sixteen_phases = refl
+
+no_phase : command_of (codes "map" ∷ codes "phases=0" ∷ []) ≡ None
+unfolding digits phases_in command_of
+no_phase = refl
+
+too_many_phases : command_of (codes "map" ∷ codes "phases=17" ∷ []) ≡ None
+unfolding digits phases_in command_of
+too_many_phases = refl
+
+leading_zero : command_of (codes "map" ∷ codes "phases=01" ∷ []) ≡ None
+unfolding digits phases_in command_of
+leading_zero = refl
+
+no_number : command_of (codes "map" ∷ codes "phases=" ∷ []) ≡ None
+unfolding digits phases_in command_of
+no_number = refl
+
+two_keys : command_of (codes "map" ∷ codes "phases=1" ∷ codes "phases=1" ∷ []) ≡ None
+unfolding digits phases_in command_of
+two_keys = refl
+
 capital : command_of (codes "Map" ∷ []) ≡ None
+unfolding digits phases_in command_of
 capital = refl
 
 no_words : command_of [] ≡ None
+unfolding digits phases_in command_of
 no_words = refl
 
 -- the netlist of the two tables at one phase

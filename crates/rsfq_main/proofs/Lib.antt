@@ -1,5 +1,19 @@
 pub mod PlainNames
 pub mod PlainLoops
 pub mod PlainExits
+pub mod PlainDesigns
+pub mod CircuitNames
+pub mod PhaseWords
+pub mod MappingNames
+pub mod MappingRows
+pub mod MappingSteps
+pub mod MappingPlain
+pub mod MappingUsed
+pub mod MappingValues
+pub mod MappingCalls
+pub mod ClockingChains
+pub mod NetlistMeans
 pub mod SpellingLines
+pub mod RunClauses
 mod Examples
+mod MappingExamples

@@ -2,6 +2,13 @@ pub mod Words
 pub mod PlainForm
 pub mod PlainRules
 pub mod PlainReading
+pub mod DesignValues
+pub mod Mapping
+pub mod MappingLaws
+pub mod MappingSteps
+pub mod Clocking
+pub mod Netlist
+pub mod Map
 pub mod Spelling
 pub mod Faults
 pub mod Run

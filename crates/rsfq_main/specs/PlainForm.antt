@@ -8,7 +8,7 @@ use Rattle.cell_lib.specs.declared.cell.Cell.TheVariants.{Not, And}
 use Rattle.rsfq_main.specs.declared.design.Design.{Design}
 use Rattle.rsfq_main.specs.declared.design.Table.{Table}
 use Rattle.rsfq_main.specs.declared.plain.TheConstants.{MAX_PLAIN_NAMES, MAX_PLAIN_TABLES}
-use Rattle.rsfq_main.specs.PlainRules.{◌>>=◌, is_tree}
+use Rattle.rsfq_main.specs.PlainRules.{◌>>=◌, is_circuit}
 
 -- the text after a front that it begins with
 abbrev pub after : List ℕ → List ℕ → Option (List ℕ)
@@ -94,6 +94,6 @@ lines_of text =
     tables_of MAX_PLAIN_TABLES outputs.1 >>= λ tables.
     Some (record { model = model.0; inputs = inputs.0; outputs = outputs.0; tables = tables })
 
--- the design of a text of the plain form: its lines spell a tree
+-- the design of a text of the plain form: its lines spell a circuit
 unfoldable pub plain_design : List ℕ → Option Design
-plain_design text = lines_of text >>= λ design. if is_tree design then Some design else None
+plain_design text = lines_of text >>= λ design. if is_circuit design then Some design else None

@@ -1,11 +1,12 @@
--- What the signals of a plain design keep to: it is a tree, in which each signal is driven once and used at most once.
--- Names are taken in the order of the text. Each driver (an input, or a table's target) is a new name, each use (a pin, or
--- an output) names a driver before it that isn't used yet, and in the end each target is used.
-use Rattle.std.specs.Prelude.{ℕ, Bool, List, [], ◌∷◌, ◌++◌, Option, Some, None, if◌then◌else◌, is_some}
-use Rattle.std.specs.List.{list_any, list_all}
+-- What the signals of a plain design keep to. A driver is an input or a table's target, a use is a pin or an output.
+use Rattle.std.specs.Prelude.{◌≡◌, ◌≢◌, ◌≤◌, ℕ, Bool, true, not, ◌&&◌, List, [], ◌∷◌, ◌++◌, length, map, All, Option, Some, None}
+use Rattle.std.specs.List.{list_any, list_all, flat_map}
 use Rattle.std.specs.Str.{bytes_eq}
+use Rattle.cell_lib.specs.Cell.{arity_of}
+use Rattle.cell_lib.specs.declared.cell.Cell.TheVariants.{Dro}
 use Rattle.rsfq_main.specs.declared.design.Design.{Design}
 use Rattle.rsfq_main.specs.declared.design.Table.{Table}
+use Rattle.rsfq_main.specs.declared.plain.TheConstants.{MAX_PLAIN_NAMES, MAX_PLAIN_TABLES}
 
 infixl 10 ◌>>=◌
 abbrev pub ◌>>=◌ : {A B : Type 0} → Option A → (A → Option B) → Option B
@@ -18,40 +19,49 @@ Names = List (List ℕ)
 abbrev pub is_among : List ℕ → Names → Bool
 is_among name names = list_any (bytes_eq name) names
 
--- the names with a new one at the end
-abbrev pub with_new : Names → List ℕ → Option Names
-with_new names name = if is_among name names then None else Some (names ++ name ∷ [])
+-- the same names are among both, in whatever order, and however often
+abbrev pub AreSameNames : Names → Names → Type 0
+AreSameNames names others = (name : List ℕ) → is_among name names ≡ is_among name others
 
--- the drivers with these inputs
-abbrev pub driven_by : Names → Names → Option Names
-driven_by drivers [] = Some drivers
-driven_by drivers (input ∷ inputs) = with_new drivers input >>= λ drivers. driven_by drivers inputs
+-- the names differ from these, and from one another
+abbrev pub are_new : Names → Names → Bool
+are_new names [] = true
+are_new names (name ∷ more) = not (is_among name names) && are_new (names ++ name ∷ []) more
 
--- the uses with these: each names a driver, and none is used twice
-abbrev pub used_by : Names → Names → Names → Option Names
-used_by drivers uses [] = Some uses
-used_by drivers uses (name ∷ names) = if is_among name drivers then (with_new uses name >>= λ uses. used_by drivers uses names) else None
+-- a table behind these drivers: its pins are among them, and its target isn't
+abbrev pub is_table : Names → Table → Bool
+is_table drivers table = list_all (λ pin. is_among pin drivers) table.pins && not (is_among table.target drivers)
 
--- the drivers and the uses with these tables: pins are used before the target drives
-abbrev pub tabled_by : Names → Names → List Table → Option (Names × Names)
-tabled_by drivers uses [] = Some (drivers, uses)
-tabled_by drivers uses (table ∷ tables) =
-    used_by drivers uses table.pins >>= λ uses. with_new drivers table.target >>= λ drivers. tabled_by drivers uses tables
+-- the same of tables in order
+abbrev pub are_tables : Names → List Table → Bool
+are_tables drivers [] = true
+are_tables drivers (table ∷ tables) = is_table drivers table && are_tables (drivers ++ table.target ∷ []) tables
 
--- the drivers and the uses of a whole design
-unfoldable pub signals_of : Design → Option (Names × Names)
-signals_of design =
-    driven_by [] design.inputs >>= λ drivers.
-    tabled_by drivers [] design.tables >>= λ signals.
-    used_by signals.0 signals.1 design.outputs >>= λ uses. Some (signals.0, uses)
+-- all drivers, and all uses
+abbrev pub drivers_of : Design → Names
+drivers_of design = design.inputs ++ map (λ table. table.target) design.tables
 
--- each target is used
-abbrev pub are_used : Names → List Table → Bool
-are_used uses tables = list_all (λ table. is_among table.target uses) tables
+abbrev pub uses_of : Design → Names
+uses_of design = flat_map (λ table. table.pins) design.tables ++ design.outputs
 
--- the drivers and the uses of a tree
-unfoldable pub tree_signals : Design → Option (Names × Names)
-tree_signals design = signals_of design >>= λ signals. if are_used signals.1 design.tables then Some signals else None
+-- Each signal is driven once, before the tables that use it; the outputs differ, and are driven; and each target is used.
+unfoldable pub is_circuit : Design → Bool
+is_circuit design =
+    are_new [] design.inputs
+    && are_tables design.inputs design.tables
+    && are_new [] design.outputs
+    && list_all (λ output. is_among output (drivers_of design)) design.outputs
+    && list_all (λ table. is_among table.target (uses_of design)) design.tables
 
-abbrev pub is_tree : Design → Bool
-is_tree design = is_some (tree_signals design)
+-- a table has as many pins as its cell, which is no DRO
+pub record HasShape (table : Table) : Type 0 where
+  pub not_dro : table.cell ≢ Dro
+  pub arity : length table.pins ≡ arity_of table.cell
+
+-- what the steps behind the reader use of a plain design
+pub record IsPlain (design : Design) : Type 0 where
+  pub circuit : is_circuit design ≡ true
+  pub shapes : All HasShape design.tables
+  pub few_inputs : length design.inputs ≤ MAX_PLAIN_NAMES
+  pub few_outputs : length design.outputs ≤ MAX_PLAIN_NAMES
+  pub few_tables : length design.tables ≤ MAX_PLAIN_TABLES

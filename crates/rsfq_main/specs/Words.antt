@@ -1,11 +1,17 @@
 -- The words of the command line.
-use Rattle.std.specs.Prelude.{ℕ, ◌&&◌, List, [], ◌∷◌, Option, Some, None, if◌then◌else◌, codes}
+use Rattle.std.specs.Prelude.{ℕ, zero, suc, List, [], ◌∷◌, ◌++◌, Option, Some, None, option_map, if◌then◌else◌, codes, decimal}
 use Rattle.std.specs.Str.{bytes_eq}
+use Rattle.pulse_net.specs.declared.net.TheConstants.{MAX_PHASES}
 use Rattle.rsfq_main.specs.declared.words.Command.{Command}
 use Rattle.rsfq_main.specs.declared.words.Command.TheVariants.{Map}
 
--- the command that the words spell: `map` alone, or `map phases=1`
-abbrev pub command_of : List (List ℕ) → Option Command
-command_of (command ∷ []) = if bytes_eq command (codes "map") then Some Map else None
-command_of (command ∷ key ∷ []) = if bytes_eq command (codes "map") && bytes_eq key (codes "phases=1") then Some Map else None
+-- the number from 1 to `most` that a word of the key `phases` gives, in decimal
+unfoldable pub phases_in : ℕ → List ℕ → Option ℕ
+phases_in zero word = None
+phases_in (suc most) word = if bytes_eq word (codes "phases=" ++ decimal (suc most)) then Some (suc most) else phases_in most word
+
+-- the command that the words spell: `map` with one phase, or `map phases=N`, N from 1 to 16
+unfoldable pub command_of : List (List ℕ) → Option Command
+command_of (command ∷ []) = if bytes_eq command (codes "map") then Some (Map 1) else None
+command_of (command ∷ key ∷ []) = if bytes_eq command (codes "map") then option_map Map (phases_in MAX_PHASES key) else None
 command_of words = None

@@ -1,23 +1,32 @@
 //! The program `rsfq`: a command's words, a text on standard input, a netlist on standard output.
 //!
 //! `run` does all that the program does, over any source and any sinks; `main` only hands it the real ones. Today it
-//! maps trees of AND and NOT at one phase: a text of the plain form becomes a netlist of clocked cells in which each
-//! signal waits in DROs until its user's stage.
+//! maps texts of the plain form, circuits of AND and NOT tables, at 1 to 16 phases: each table becomes a clocked cell,
+//! each signal waits in DROs until its users' stages, and splitters hand it to all of them.
 //!
-//! Promised by `run`: each status has its cause (`usage`, `read_fault`, `refused`, `write_fault`, `no`); what each
-//! leaves in the source (`left`, `unread`), the sink (`unwritten`, `appended`) and the notes (`silent`, `noted`).
-//! The private reader gives the plain form's definition, and the private writer the netlist's one spelling.
-//! Not promised yet: that the bytes written are those of a given netlist, and that its pulses mean the tables. Want of
-//! memory is answered freely; tests show that it isn't with ample memory.
+//! Promised by `run`: the bytes that it writes are those of the text's netlist, whole on Done and a proper front of them
+//! on WriteFault (`written`); on Done they spell a valid netlist with the design's names, on which for every list of input
+//! rows the value read at each output is the value of the text's tables (`meant`); right words, a text of the form and no
+//! counted fault give Done, or NoMemory (`complete`). Each status has its cause (`usage`, `read_fault`, `refused`,
+//! `write_fault`, `no`), and leaves the source (`left`, `unread`), the sink (`unwritten`, `appended`) and the notes
+//! (`silent`, `noted`) as it says.
+//! Not promised: that no fewer DROs would do, since the gates have their earliest epochs; and that memory suffices.
 //!
 //! Read `specs/Run.antt`, then `specs/Words.antt` (the words), `specs/PlainForm.antt` and `specs/PlainRules.antt` (the
-//! text) and `specs/Spelling.antt` (the output). Central proofs: the loops of the reader and the writer keep "what is
-//! done, then what is left, is the whole".
+//! text), `specs/DesignValues.antt` (what it means), `specs/Netlist.antt` and `specs/Mapping.antt` (the netlist) and
+//! `specs/Spelling.antt` (the output). Central proofs: the values of tables are those of their gates
+//! (`proofs/MappingValues.antt`), the clock fits (`proofs/ClockingChains.antt`), and the meaning is put together from the
+//! laws of the layers (`proofs/NetlistMeans.antt`).
 #![tactic(auto)]
 
+mod circuit;
+mod clocking;
 mod design;
 mod fault;
 mod map;
+mod mapping;
+#[cfg(test)]
+mod mapping_tests;
 mod netlist;
 mod plain;
 mod run;
@@ -25,7 +34,6 @@ mod spelling;
 mod status;
 #[cfg(test)]
 mod tests;
-mod tree;
 mod words;
 
 use io_edge::{StdSink, StdSource};

@@ -1,20 +1,25 @@
 //! The command `map`: a BLIF text becomes a netlist text.
 
-ghost use Rattle.std.specs.Prelude.{◌≡◌, IsSome, IfOk, IsErrOf, None};
+ghost use Rattle.std.specs.Prelude.{◌≡◌, ◌≤◌, IfOk, IsErrOf, None};
+ghost use Rattle.pulse_net.specs.declared.net.TheConstants.{MAX_PHASES};
 ghost use Rattle.rsfq_main.specs.PlainForm.{plain_design};
+ghost use Rattle.rsfq_main.specs.Map.{Maps};
 
 use crate::netlist::netlist_of;
-use crate::plain::{PlainFault, plain_tree};
+use crate::plain::{PlainFault, plain_design as read_design};
 use crate::spelling::spelling_of;
 use std::alloc::Global;
 
-/// The text of the netlist of a plain text's tree.
-pub fn map(alloc: Global, text: &[u8]) -> Result<Vec<u8>, PlainFault>
-    ensures taken { IfOk result (λ _. IsSome (plain_design text.now)) }
+/// The text of the netlist of a plain text's design, with 1 to `MAX_PHASES` phases. `NotPlain` comes exactly where the
+/// text isn't of the plain form, and else `NoMemory` is the only error.
+pub fn map(alloc: Global, text: &[u8], phases: u32) -> Result<Vec<u8>, PlainFault>
+    requires some { 1 ≤ phases }
+    requires few { phases ≤ MAX_PHASES }
+    ensures mapped { IfOk result (λ bytes. Maps phases text.now bytes.items) }
     ensures refused { IsErrOf result PlainFault.NotPlain → plain_design text.now ≡ None }
 {
-    let tree = plain_tree(alloc, text)?;
-    let net = netlist_of(alloc, tree)?;
+    let design = read_design(alloc, text)?;
+    let net = netlist_of(alloc, design, phases)?;
     let netlist = spelling_of(alloc, &net)?;
     Ok(netlist)
 }

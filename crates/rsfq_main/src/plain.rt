@@ -1,18 +1,19 @@
-//! The reader of the plain form, in which a text spells a tree of AND and NOT tables.
+//! The reader of the plain form, in which a text spells a circuit of AND and NOT tables.
 //!
 //! Each function reads one part of the text from its front, and answers what the definition of its name in
 //! `specs/PlainForm.antt` reads there. So the text is looked at once, byte by byte, and no line is kept.
 
-ghost use Rattle.std.specs.Prelude.{◌≡◌, ◌∷◌, [], Some};
+ghost use Rattle.std.specs.Prelude.{◌≡◌, ◌∷◌, [], Some, IfOk};
 ghost use Rattle.std.specs.Option.{option_copied};
 ghost use Rattle.std.specs.List.{prefix_len};
 ghost use Rattle.cell_lib.specs.declared.cell.Cell.TheVariants.{Not, And};
 ghost use Rattle.rsfq_main.specs.PlainForm as form;
 ghost use Rattle.rsfq_main.specs.PlainReading.{Gives};
+ghost use Rattle.rsfq_main.specs.PlainRules.{IsPlain};
 ghost use Rattle.rsfq_main.specs.declared.plain.PlainFault.TheVariants.{NoMemory};
 
+use crate::circuit::is_circuit;
 use crate::design::{Design, Table};
-use crate::tree::{Tree, tree_signals};
 use cell_lib::Cell;
 use net_base::{List, MAX_NAME_BYTES, Name};
 use std::alloc::{AllocError, AllocFailed, Global};
@@ -246,12 +247,16 @@ fn lines_of(alloc: Global, text: &[u8]) -> Result<Design, PlainFault>
     })
 }
 
-/// The tree that a text of the plain form spells, and its signals.
+/// The design that a text of the plain form spells. `NotPlain` comes exactly where the text isn't of the form.
 #[tactic(auto, unfolding(crate::specs::PlainForm::plain_design))]
-pub fn plain_tree(alloc: Global, text: &[u8]) -> Result<Tree, PlainFault>
-    ensures { Gives (λ tree. tree.design) result (form.plain_design text.now) }
+pub fn plain_design(alloc: Global, text: &[u8]) -> Result<Design, PlainFault>
+    ensures design { Gives (λ design. design) result (form.plain_design text.now) }
+    ensures plain { IfOk result IsPlain }
 {
     let design = lines_of(alloc, text)?;
-    let signals = tree_signals(alloc, &design)?;
-    Ok(Tree { design, signals })
+    if is_circuit(alloc, &design)? {
+        Ok(design)
+    } else {
+        Err(PlainFault::NotPlain)
+    }
 }

@@ -1,17 +1,17 @@
 //! The top call: words and bytes in, bytes and a status out.
 
-ghost use Rattle.std.specs.Prelude.{◌≡◌, ◌≢◌, ◌↔◌, ◌≤◌, None, List, ℕ, map, string_bytes, IfSome, IfErr, IsSome};
+ghost use Rattle.std.specs.Prelude.{◌≡◌, ◌≢◌, ◌↔◌, ◌≤◌, None, List, ℕ, map, string_bytes, IfSome, IfErr, IsErr, IsOk};
 ghost use Rattle.io_edge.specs.Counts.{Rose};
 ghost use Rattle.io_edge.specs.WriteAll.{FailedOrStalled};
 ghost use Rattle.rsfq_main.specs.Words.{command_of as command_in};
 ghost use Rattle.rsfq_main.specs.Faults.{outcome_status, fault_line};
-ghost use Rattle.rsfq_main.specs.Run.{refusal_of, IsDecidedByText, IsUnwritten, LeavesAfter, IsNoteOf, TakesFront, Appends};
+ghost use Rattle.rsfq_main.specs.Run.{output_of, OfMap, Writes, WritesMeaning, IsDoneOrNoMemory, IsDecidedByText, IsUnwritten, LeavesAfter, IsNoteOf, TakesFront, Appends};
 
 use crate::fault::{Fault, Refusal};
 use crate::map::map as map_text;
 use crate::plain::PlainFault;
 use crate::status::Status;
-use crate::words::command_of;
+use crate::words::{Command, command_of};
 use io_edge::{ReadAllFault, Sink, Source, read_all, write_all_of};
 use std::alloc::Global;
 
@@ -38,30 +38,34 @@ fn answer<S: Source, K: Sink>(
 ) -> Result<(), Fault>
     ensures usage { outcome_status result ≡ Status.Usage ↔ (command_in (map string_bytes words.now) ≡ None) }
     ensures read_fault { outcome_status result ≡ Status.ReadFault → Rose (S.faults source.old) (S.faults source.new) }
-    ensures refused { IfSome (S.left source.old) (λ text.
-        IsDecidedByText (outcome_status result) → (outcome_status result ≡ Status.Refused ↔ IsSome (refusal_of text))) }
+    ensures refused { OfMap (command_in (map string_bytes words.now)) (S.left source.old)
+        (λ n text. IsDecidedByText (outcome_status result) → (outcome_status result ≡ Status.Refused ↔ IsErr (output_of n text))) }
     ensures write_fault { outcome_status result ≡ Status.WriteFault
         → FailedOrStalled (K.faults sink.old) (K.faults sink.new) (K.stalls sink.old) (K.stalls sink.new) }
     ensures left { IfSome (S.left source.old) (λ text. LeavesAfter (outcome_status result) text (S.left source.new)) }
     ensures unread { outcome_status result ≡ Status.Usage → source.new ≡ source.old }
     ensures unwritten { IsUnwritten (outcome_status result) → sink.new ≡ sink.old }
+    ensures written { OfMap (command_in (map string_bytes words.now)) (S.left source.old)
+        (λ n text. Writes (outcome_status result) (K.taken sink.old) (K.taken sink.new) (output_of n text)) }
+    ensures meant { OfMap (command_in (map string_bytes words.now)) (S.left source.old)
+        (λ n text. WritesMeaning (outcome_status result) n text (K.taken sink.old) (K.taken sink.new)) }
     ensures appended { Appends (K.taken sink.old) (K.taken sink.new) }
-    ensures line { IfErr result (λ fault. IsNoteOf (outcome_status result) (S.left source.old) (fault_line fault)) }
+    ensures line { IfErr result (λ fault. IsNoteOf (outcome_status result) (command_in (map string_bytes words.now)) (S.left source.old) (fault_line fault)) }
     ensures source_faults { S.faults source.old ≤ S.faults source.new }
     ensures sink_faults { K.faults sink.old ≤ K.faults sink.new }
     ensures sink_stalls { K.stalls sink.old ≤ K.stalls sink.new }
     ensures sink_size { K.size sink.new ≡ K.size sink.old }
 {
-    if command_of(words).is_none() {
+    let Some(Command::Map(phases)) = command_of(words) else {
         return Err(Fault::Usage);
-    }
+    };
     let text = match read_all(alloc, source, MAX_TEXT_BYTES) {
         Ok(text) => text,
         Err(ReadAllFault::ReadFault) => return Err(Fault::Read),
         Err(ReadAllFault::TooLong) => return Err(Fault::Refused(Refusal::TooLong)),
         Err(ReadAllFault::NoMemory) => return Err(Fault::NoMemory),
     };
-    let netlist = match map_text(alloc, text.as_slice()) {
+    let netlist = match map_text(alloc, text.as_slice(), phases) {
         Ok(netlist) => netlist,
         Err(PlainFault::NotPlain) => return Err(Fault::Refused(Refusal::NotYet)),
         Err(PlainFault::NoMemory) => return Err(Fault::NoMemory),
@@ -75,9 +79,10 @@ fn answer<S: Source, K: Sink>(
 /// Does all that the program does: reads the command from the words, the text from the source, writes the output to
 /// the sink and, where the status isn't Done, one line to the notes.
 ///
-/// The program's own name isn't among the words. A fault of the notes changes nothing else. On every status but Done
-/// and WriteFault nothing was written to the sink; on WriteFault a front of the output was. All memory is taken before
-/// the first write.
+/// The program's own name isn't among the words. On Done the sink has taken the netlist text of the design, and its
+/// pulses mean the text's tables. On WriteFault it has taken a proper front of that, and on every other status, want of
+/// memory too, nothing: all memory is taken before the first write. A fault of the notes changes nothing else. The
+/// clauses on content are of sources and sinks that tell theirs.
 pub fn run<S: Source, K: Sink, N: Sink>(
     alloc: Global,
     words: &[String],
@@ -87,12 +92,17 @@ pub fn run<S: Source, K: Sink, N: Sink>(
 ) -> Status
     ensures usage { result ≡ Status.Usage ↔ (command_in (map string_bytes words.now) ≡ None) }
     ensures read_fault { result ≡ Status.ReadFault → Rose (S.faults source.old) (S.faults source.new) }
-    // Of a source that tells its text.
-    ensures refused { IfSome (S.left source.old) (λ text.
-        IsDecidedByText result → (result ≡ Status.Refused ↔ IsSome (refusal_of text))) }
+    // Of `map` with n phases, and a source that tells its text.
+    ensures refused { OfMap (command_in (map string_bytes words.now)) (S.left source.old)
+        (λ n text. IsDecidedByText result → (result ≡ Status.Refused ↔ IsErr (output_of n text))) }
     ensures write_fault { result ≡ Status.WriteFault
         → FailedOrStalled (K.faults sink.old) (K.faults sink.new) (K.stalls sink.old) (K.stalls sink.new) }
     ensures no { result ≢ Status.No }
+    // Right words, an accepted text, and no counted fault or stall.
+    ensures complete { OfMap (command_in (map string_bytes words.now)) (S.left source.old)
+        (λ n text. IsOk (output_of n text) → (Rose (S.faults source.old) (S.faults source.new) → ⊥)
+        → (FailedOrStalled (K.faults sink.old) (K.faults sink.new) (K.stalls sink.old) (K.stalls sink.new) → ⊥)
+        → IsDoneOrNoMemory result) }
 
     // What the source is left with.
     ensures left { IfSome (S.left source.old) (λ text. LeavesAfter result text (S.left source.new)) }
@@ -101,6 +111,11 @@ pub fn run<S: Source, K: Sink, N: Sink>(
 
     // What the sink has taken.
     ensures unwritten { IsUnwritten result → sink.new ≡ sink.old }
+    // Of `map` with n phases, and a source that tells its text: the bytes of the output, to the last one, and their meaning.
+    ensures written { OfMap (command_in (map string_bytes words.now)) (S.left source.old)
+        (λ n text. Writes result (K.taken sink.old) (K.taken sink.new) (output_of n text)) }
+    ensures meant { OfMap (command_in (map string_bytes words.now)) (S.left source.old)
+        (λ n text. WritesMeaning result n text (K.taken sink.old) (K.taken sink.new)) }
     ensures appended { Appends (K.taken sink.old) (K.taken sink.new) }
     ensures sink_faults { K.faults sink.old ≤ K.faults sink.new }
     ensures sink_stalls { K.stalls sink.old ≤ K.stalls sink.new }
@@ -108,7 +123,7 @@ pub fn run<S: Source, K: Sink, N: Sink>(
 
     // What the notes have taken.
     ensures silent { result ≡ Status.Done → notes.new ≡ notes.old }
-    ensures noted { result ≢ Status.Done → (line : List ℕ) × IsNoteOf result (S.left source.old) line
+    ensures noted { result ≢ Status.Done → (line : List ℕ) × IsNoteOf result (command_in (map string_bytes words.now)) (S.left source.old) line
         × TakesFront (N.taken notes.old) (N.taken notes.new) line
         (FailedOrStalled (N.faults notes.old) (N.faults notes.new) (N.stalls notes.old) (N.stalls notes.new)) }
     ensures notes_faults { N.faults notes.old ≤ N.faults notes.new }

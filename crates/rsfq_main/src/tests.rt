@@ -11,7 +11,7 @@ use std::test::Fail;
 use tables::{MAPPED, NEAR_MISSES, WRONG_WORDS};
 
 /// Room for the output of each text here.
-const ROOM: usize = 65_536;
+const ROOM: usize = 2_097_152;
 
 // What a run left behind.
 #[derive(Drop)]
@@ -82,6 +82,27 @@ fn plain_texts_become_the_netlists_worked_by_hand(rt: HostRuntime) -> Result<(),
     Ok(())
 }
 
+// The conjunction of a and not b at every number of phases: from three on both gates stand in the first epoch.
+#[test]
+fn a_text_is_mapped_at_every_number_of_phases(rt: HostRuntime) -> Result<(), Fail> {
+    let alloc = rt.alloc();
+    for phases in 1u32..=16 {
+        let words = format!(in alloc; "map|phases={phases}")?;
+        let ran = calm(alloc, words.as_str(), MAPPED[0].text.as_bytes(), 4096)?;
+        assert_eq!(rt; ran.status, 0);
+        let (latency, gates) = match phases {
+            1 => (3u32, "dro 1 0 2\nnot 1 1 3\nand 2 2 3 4\noutput f 4\n"),
+            2 => (2, "not 1 1 2\nand 2 0 2 3\noutput f 3\n"),
+            _ => (1, "not 1 1 2\nand 2 0 2 3\noutput f 3\n"),
+        };
+        let wanted = format!(in alloc;
+            "rsfq 1\nmodel t\nphases {phases}\nlatency {latency}\ninput a 0\ninput b 1\n{gates}end\n"
+        )?;
+        assert_eq!(rt; ran.output.as_slice(), wanted.as_bytes());
+    }
+    Ok(())
+}
+
 #[test]
 fn near_misses_of_the_plain_form_are_refused(rt: HostRuntime) -> Result<(), Fail> {
     for (about, text) in &NEAR_MISSES {
@@ -128,14 +149,31 @@ fn wide_text(alloc: Global, count: u32) -> Result<String, AllocError> {
     Ok(text)
 }
 
-// A text with a chain of so many NOT tables, of which the last drives the output.
-fn chain_text(alloc: Global, count: u32) -> Result<String, AllocError> {
-    let mut text = format!(in alloc; ".model t\n.inputs t0\n.outputs t{count}\n")?;
+// So many NOT tables in a row, from the signal t0 on, and the end line.
+fn push_inverters(text: &mut String, count: u32) -> Result<(), AllocError> {
     for i in 0..count {
         let next = i + 1;
         write!(text, ".names t{i} t{next}\n0 1\n")?;
     }
     text.push_str(".end\n")?;
+    Ok(())
+}
+
+// A text with a chain of so many NOT tables, of which the last drives the output.
+fn chain_text(alloc: Global, count: u32) -> Result<String, AllocError> {
+    let mut text = format!(in alloc; ".model t\n.inputs t0\n.outputs t{count}\n")?;
+    push_inverters(&mut text, count)?;
+    Ok(text)
+}
+
+// A text whose inputs all wait, as outputs of their own, for the last of so many NOT tables in a row: 255 chains as long.
+fn waiting_text(alloc: Global, count: u32) -> Result<String, AllocError> {
+    let mut text = String::from_str(alloc, ".model t\n.inputs t0")?;
+    push_names(&mut text, "i", 255)?;
+    write!(text, "\n.outputs t{count}")?;
+    push_names(&mut text, "i", 255)?;
+    text.push_str("\n")?;
+    push_inverters(&mut text, count)?;
     Ok(text)
 }
 
@@ -152,16 +190,33 @@ fn long_text(alloc: Global, count: usize) -> Result<String, AllocError> {
 #[test]
 fn texts_at_a_limit_run_and_those_above_are_refused(rt: HostRuntime) -> Result<(), Fail> {
     let alloc = rt.alloc();
+    // Of the waiting inputs: 4 lines of the header, 256 inputs, 256 outputs, the end and 256 gates; and 255 chains, of 256
+    // DROs at one phase, 128 at two, and 16 at sixteen.
+    let around = 4 + 256 + 256 + 1 + 256;
     let rows = [
-        (wide_text(alloc, 256)?, 0u8, 517usize),
-        (wide_text(alloc, 257)?, 1, 0),
-        (chain_text(alloc, 256)?, 0, 263),
-        (chain_text(alloc, 257)?, 1, 0),
-        (long_text(alloc, 255)?, 0, 7),
-        (long_text(alloc, 256)?, 1, 0),
+        ("map", wide_text(alloc, 256)?, 0u8, 517usize),
+        ("map", wide_text(alloc, 257)?, 1, 0),
+        ("map", chain_text(alloc, 256)?, 0, 263),
+        ("map", chain_text(alloc, 257)?, 1, 0),
+        ("map", waiting_text(alloc, 256)?, 0, around + 255 * 256),
+        (
+            "map|phases=2",
+            waiting_text(alloc, 256)?,
+            0,
+            around + 255 * 128,
+        ),
+        (
+            "map|phases=16",
+            waiting_text(alloc, 256)?,
+            0,
+            around + 255 * 16,
+        ),
+        ("map", waiting_text(alloc, 257)?, 1, 0),
+        ("map", long_text(alloc, 255)?, 0, 7),
+        ("map", long_text(alloc, 256)?, 1, 0),
     ];
-    for (text, status, lines) in &rows {
-        let ran = calm(alloc, "map", text.as_bytes(), 4096)?;
+    for (words, text, status, lines) in &rows {
+        let ran = calm(alloc, words, text.as_bytes(), 4096)?;
         assert_eq!(rt; ran.status, *status);
         let written = ran.output.iter().filter(|byte| **byte == b'\n').count();
         assert_eq!(rt; written, *lines);

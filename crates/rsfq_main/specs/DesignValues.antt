@@ -1,0 +1,37 @@
+-- The values of a design's signals over one row of input bits, table by table.
+use Rattle.std.specs.Prelude.{ℕ, ◌+◌, Bool, false, List, [], ◌∷◌, ◌++◌, map, slice_index_or, unwrap_or}
+use Rattle.std.specs.Map.{lookup}
+use Rattle.std.specs.Str.{bytes_eq}
+use Rattle.cell_lib.specs.Cell.{cell_value}
+use Rattle.rsfq_main.specs.declared.design.Design.{Design}
+use Rattle.rsfq_main.specs.declared.design.Table.{Table}
+
+-- signals with their values, in the order of the text
+abbrev pub Values : Type 0
+Values = List (List ℕ × Bool)
+
+-- the value of a signal; a plain design uses no signal without one, and what is said of one is free
+abbrev pub value_named : Values → List ℕ → Bool
+value_named values name = unwrap_or (lookup (bytes_eq name) values) false
+
+-- the inputs, from a place on, have the bits of the row
+abbrev pub input_values : List Bool → ℕ → List (List ℕ) → Values
+input_values bits place [] = []
+input_values bits place (name ∷ names) = (name, slice_index_or bits place false) ∷ input_values bits (place + 1) names
+
+-- the value of a table, over the values of its pins
+abbrev pub table_value : Values → Table → Bool
+table_value values table = cell_value table.cell (map (value_named values) table.pins)
+
+-- the targets of tables have the tables' values
+abbrev pub with_tables : Values → List Table → Values
+with_tables values [] = values
+with_tables values (table ∷ tables) = with_tables (values ++ (table.target, table_value values table) ∷ []) tables
+
+-- the values of all signals over a row
+abbrev pub values_of : Design → List Bool → Values
+values_of design bits = with_tables (input_values bits 0 design.inputs) design.tables
+
+-- the value of the output at a place over a row
+abbrev pub output_value : Design → List Bool → ℕ → Bool
+output_value design bits output = value_named (values_of design bits) (slice_index_or design.outputs output [])
