@@ -16,7 +16,7 @@ use Rattle.rsfq_main.specs.Spelling.{line, model_lines, header_lines, input_line
 use Rattle.rsfq_main.specs.Run.{output_of}
 
 -- f = a and not b, as two tables
-abbrev two_tables : Design
+abbrev pub two_tables : Design
 two_tables =
     record {
       model = codes "t";

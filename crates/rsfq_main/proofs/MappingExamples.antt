@@ -11,21 +11,13 @@ use Rattle.rsfq_main.specs.declared.design.Table.{Table}
 use Rattle.rsfq_main.specs.PlainRules.{is_circuit}
 use Rattle.rsfq_main.specs.DesignValues.{output_value}
 use Rattle.rsfq_main.specs.Mapping.{gates_of}
+use Rattle.rsfq_main.proofs.Examples.{two_tables}
 
 abbrev gate : Cell → List Driver → GateRow
 gate cell pins = record { cell = cell; pins = pins }
 
 abbrev table : Cell → List (List ℕ) → List ℕ → Table
 table cell pins target = record { cell = cell; pins = pins; target = target }
-
--- f = a and not b, as two tables
-abbrev two_tables : Design
-two_tables = record {
-  model = codes "t";
-  inputs = codes "a" ∷ codes "b" ∷ [];
-  outputs = codes "f" ∷ [];
-  tables = table Not (codes "b" ∷ []) (codes "c") ∷ table And (codes "a" ∷ codes "c" ∷ []) (codes "f") ∷ [];
-}
 
 two_tables-is_circuit : is_circuit two_tables ≡ true
 unfolding is_circuit

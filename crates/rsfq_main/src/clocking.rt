@@ -25,6 +25,7 @@ fn gate_epochs(alloc: Global, levels: &[u32], n: u32) -> Result<List<u32>, NoMem
     Ok(List::from_vec(epochs))
 }
 
+// The epoch of a driver. Inputs have epoch 0, and so has a gate past the last, which a well-formed netlist has not.
 fn driver_epoch(gates: &[u32], driver: Driver) -> u32
     ensures { result ≡ epoch_of gates.now driver }
 {
