@@ -29,7 +29,7 @@ with_tables-inputs [] so = refl
 with_tables-inputs (table ∷ tables) so = with_tables-inputs tables (with_table table so)
 
 -- the design has a name for each input and each output
-has_names : (n : ℕ) (design : Design) → HasNames (clocked n (gates_of design)) (names_of design)
+pub has_names : (n : ℕ) (design : Design) → HasNames (clocked n (gates_of design)) (names_of design)
 has_names n design = record {
   inputs = sym (with_tables-inputs design.tables (inputs_alone design));
   outputs = sym (length-map design.outputs (λ (output : List ℕ). From (driver_named (mapping_of design).drivers output)));

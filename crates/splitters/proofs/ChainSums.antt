@@ -8,9 +8,9 @@ use Rattle.gate_net.specs.declared.row.Driver.TheVariants.{Input, Gate}
 use Rattle.gate_net.specs.Rows.{same_driver}
 use Rattle.gate_net.specs.Net.{IsThere, pin_drivers}
 use Rattle.dro_chains.specs.declared.chain.Chained.{Chained}
-use Rattle.splitters.specs.Taps.{tap_count, taps_of, slot, HasLengths, input_dros, gate_dros, chain_dros}
-use Rattle.splitters.proofs.TapLemmas.{slot-same, slot-other, slot-below}
-use Rattle.splitters.proofs.WiredDros.{length-taps_from}
+use Rattle.splitters.specs.Taps.{tap_count, taps_of, input_dros, gate_dros, chain_dros}
+use Rattle.splitters.specs.Table.{slot, HasLengths}
+use Rattle.splitters.proofs.TapLemmas.{slot-same, slot-other, slot-below, length-taps_from}
 
 -- what the table has, with the needs of the pins from a number on, is what all pins make
 abbrev pub Lengthens : ℕ → ℕ → List ℕ → List Driver → List ℕ → ℕ → List Driver → Type 0

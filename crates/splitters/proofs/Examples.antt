@@ -1,5 +1,5 @@
 -- Small netlists by hand, laid out by evaluation: a false definition fails here.
-use Rattle.std.specs.Prelude.{◌≡◌, [], ◌∷◌, Some, None, refl}
+use Rattle.std.specs.Prelude.{◌≡◌, ℕ, [], ◌∷◌, Some, None, refl}
 use Rattle.cell_lib.specs.declared.cell.Cell.TheVariants.{Dro, Not, And, Or}
 use Rattle.gate_net.specs.declared.row.Driver.TheVariants.{Input, Gate}
 use Rattle.gate_net.specs.declared.row.End.TheVariants.{One as True, From}
@@ -9,6 +9,7 @@ use Rattle.pulse_net.specs.declared.net.Outlet.TheVariants.{One, Wire}
 use Rattle.dro_chains.specs.declared.chain.Chained.{Chained}
 use Rattle.splitters.specs.Spread.{spread_lines, spread_wires}
 use Rattle.splitters.specs.Elements.{elements_of}
+use Rattle.splitters.specs.Laws.{HasNames}
 
 -- over three targets: the first half is the larger one
 three_lines : spread_lines 7 10 3 ≡ Split 7 10 11 ∷ (Split 10 12 13 ∷ [])
@@ -24,7 +25,7 @@ five_lines = refl
 five_wires : spread_wires 7 10 5 ≡ 14 ∷ (15 ∷ (13 ∷ (16 ∷ (17 ∷ []))))
 five_wires = refl
 
--- a model `m` with inputs `a` and `b`, and outputs `f` and `g`
+-- a model `m` with an input `a` and an output `f`
 abbrev names : Names
 names = record { model = 109 ∷ []; inputs = (97 ∷ []) ∷ []; outputs = (102 ∷ []) ∷ [] }
 
@@ -44,6 +45,9 @@ kept = record {
   needs = 0 ∷ (1 ∷ (0 ∷ (2 ∷ (0 ∷ (0 ∷ [])))));
 }
 
+kept_names : HasNames kept names
+kept_names = record { inputs = refl; outputs = refl }
+
 kept_netlist : elements_of kept names ≡ record {
   names = names;
   phases = 1;
@@ -59,6 +63,10 @@ kept_netlist : elements_of kept names ≡ record {
 }
 kept_netlist = refl
 
+-- a model `m` with inputs `a` and `b`, and outputs `f` and `g`
+abbrev two_names : Names
+two_names = record { model = 109 ∷ []; inputs = (97 ∷ []) ∷ ((98 ∷ []) ∷ []); outputs = (102 ∷ []) ∷ ((103 ∷ []) ∷ []) }
+
 -- the second of two inputs is an output, after a constant, and the first has no use
 abbrev passed : Chained
 passed = record {
@@ -70,8 +78,11 @@ passed = record {
   needs = 0 ∷ [];
 }
 
-passed_netlist : elements_of passed names ≡ record {
-  names = names;
+passed_names : HasNames passed two_names
+passed_names = record { inputs = refl; outputs = refl }
+
+passed_netlist : elements_of passed two_names ≡ record {
+  names = two_names;
   phases = 4;
   latency = 1;
   inputs = None ∷ (Some 0 ∷ []);
@@ -79,3 +90,34 @@ passed_netlist : elements_of passed names ≡ record {
   outputs = One ∷ (Wire 0 ∷ []);
 }
 passed_netlist = refl
+
+-- an inverter at four phases: four ticks behind the input it needs no DRO, and five ticks behind it needs one
+abbrev inverted : ℕ → ℕ → Chained
+inverted stage need = record {
+  gates = record { inputs = 1; gates = record { cell = Not; pins = Input 0 ∷ [] } ∷ []; outputs = From (Gate 0) ∷ [] };
+  n = 4;
+  stages = stage ∷ [];
+  latency = 2;
+  lengths = need ∷ (0 ∷ []);
+  needs = need ∷ (0 ∷ []);
+}
+
+gap_of_four : elements_of (inverted 4 0) names ≡ record {
+  names = names;
+  phases = 4;
+  latency = 2;
+  inputs = Some 0 ∷ [];
+  elements = Clocked Not 4 (0 ∷ []) 1 ∷ [];
+  outputs = Wire 1 ∷ [];
+}
+gap_of_four = refl
+
+gap_of_five : elements_of (inverted 5 1) names ≡ record {
+  names = names;
+  phases = 4;
+  latency = 2;
+  inputs = Some 0 ∷ [];
+  elements = Clocked Dro 4 (0 ∷ []) 1 ∷ (Clocked Not 5 (1 ∷ []) 2 ∷ []);
+  outputs = Wire 2 ∷ [];
+}
+gap_of_five = refl

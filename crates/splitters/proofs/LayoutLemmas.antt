@@ -1,17 +1,10 @@
--- Steps of a layout: a pin that takes its wire, and a tap of a chain.
+-- Steps of a layout: a tap where the chain goes on, and how many pins gates have.
 use Rattle.std.proofs.Common.{◌≡◌, ◌≤◌, ◌<◌, ℕ, zero, suc, ◌+◌, List, [], ◌∷◌, length, get_or, set, drop, refl, arith, add-one, drop-cons, length-append}
 use Rattle.std.specs.List.{flat_map}
 use Rattle.gate_net.specs.declared.row.GateRow.{GateRow}
 use Rattle.gate_net.specs.declared.net.GateNet.{GateNet}
 use Rattle.gate_net.specs.Net.{pin_drivers, end_drivers}
 use Rattle.splitters.specs.Elements.{Layout, take_wires, with_last, with_tap, with_dro, with_chain, gate_pins}
-
--- The first of the pins that are left takes the first of the wires that are left.
-pub take_wires-next : (pins wires taken : List ℕ) (i : ℕ) → i < length pins → length wires ≡ length pins →
-    take_wires (drop (i + 1) pins) (drop (i + 1) wires) (set taken (get_or pins i 0) (get_or wires i 0)) ≡ take_wires (drop i pins) (drop i wires) taken
-take_wires-next pins wires taken i within each =
-    let within_wires : i < length wires = omega arith in
-    rw (add-one, drop-cons pins i 0, drop-cons wires i 0) refl
 
 -- A tap that is not the last of its chain.
 pub with_chain-goes_on : (n stage wire : ℕ) (taps : List (List ℕ)) (layout : Layout) (k : ℕ) → suc k < length taps →
@@ -21,15 +14,6 @@ with_chain-goes_on n stage wire [] layout k more = absurd (omega arith)
 with_chain-goes_on n stage wire (pins ∷ []) layout k more = absurd (omega arith)
 with_chain-goes_on n stage wire (pins ∷ (next ∷ taps)) layout zero more = refl
 with_chain-goes_on n stage wire (pins ∷ (next ∷ taps)) layout (suc k) more = with_chain-goes_on n stage wire (next ∷ taps) layout k (omega arith)
-
--- The last tap of a chain.
-pub with_chain-last : (n stage wire : ℕ) (taps : List (List ℕ)) (layout : Layout) (k : ℕ) → suc k ≡ length taps →
-    with_last wire (get_or taps k []) layout ≡ with_chain n stage wire (drop k taps) layout
-with_chain-last n stage wire [] layout k last = absurd (omega arith)
-with_chain-last n stage wire (pins ∷ []) layout zero last = refl
-with_chain-last n stage wire (pins ∷ []) layout (suc k) last = absurd (omega arith)
-with_chain-last n stage wire (pins ∷ (next ∷ taps)) layout zero last = absurd (omega arith)
-with_chain-last n stage wire (pins ∷ (next ∷ taps)) layout (suc k) last = with_chain-last n stage wire (next ∷ taps) layout k (omega arith)
 
 -- The pins of gates come before those of outputs.
 pub length-gate_drivers : (rows : List GateRow) → length (flat_map (λ (row : GateRow). row.pins) rows) ≡ gate_pins rows

@@ -5,6 +5,7 @@ pub mod PinCount
 pub mod LayoutLemmas
 pub mod LayoutGrows
 pub mod WiredCounts
+pub mod Takers
 pub mod WiredFrontier
 pub mod WiredPins
 pub mod WiredChains
@@ -22,4 +23,5 @@ pub mod UnfoldsChains
 pub mod UnfoldsGates
 pub mod UnfoldsInputs
 pub mod UnfoldsWhole
+pub mod SplitMeans
 pub mod Examples

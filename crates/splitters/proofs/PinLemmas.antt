@@ -9,6 +9,7 @@ use Rattle.gate_net.specs.declared.row.GateRow.{GateRow}
 use Rattle.gate_net.specs.declared.net.GateNet.{GateNet}
 use Rattle.gate_net.specs.Net.{IsThere, IsEndThere, IsGateNet, end_drivers, pin_drivers}
 use Rattle.gate_net.proofs.NetLemmas.{IsThere-more}
+use Rattle.flow_net.proofs.UseLemmas.{All-end_drivers}
 use Rattle.dro_chains.specs.declared.chain.Chained.{Chained}
 use Rattle.splitters.specs.Taps.{is_used}
 use Rattle.splitters.specs.Elements.{input_wires}
@@ -20,17 +21,6 @@ gate_drivers-there inputs gates (row ∷ rows) each =
     All-append (IsThere inputs gates) row.pins (flat_map (λ (r : GateRow). r.pins) rows) (each 0 row (omega arith))
     (gate_drivers-there inputs gates rows (λ place d below. each (suc place) d (omega arith)))
 
-pub end_drivers-there : (inputs gates : ℕ) (end : End) → IsEndThere inputs gates end → All (IsThere inputs gates) (end_drivers end)
-end_drivers-there inputs gates Zero there = All-nil (IsThere inputs gates)
-end_drivers-there inputs gates One there = All-nil (IsThere inputs gates)
-end_drivers-there inputs gates (From driver) there = All-cons (IsThere inputs gates) driver [] there (All-nil (IsThere inputs gates))
-
-pub ends_drivers-there : (inputs gates : ℕ) (ends : List End) → All (IsEndThere inputs gates) ends → All (IsThere inputs gates) (flat_map end_drivers ends)
-ends_drivers-there inputs gates [] each = All-nil (IsThere inputs gates)
-ends_drivers-there inputs gates (end ∷ ends) each =
-    All-append (IsThere inputs gates) (end_drivers end) (flat_map end_drivers ends) (end_drivers-there inputs gates end (All-head (IsEndThere inputs gates) end ends each))
-    (ends_drivers-there inputs gates ends (All-tail (IsEndThere inputs gates) end ends each))
-
 -- In a well-formed netlist the driver of each pin is there.
 pub pin_drivers-there : (net : GateNet) → IsGateNet net → All (IsThere net.inputs (length net.gates)) (pin_drivers net)
 pin_drivers-there net formed =
@@ -38,7 +28,7 @@ pin_drivers-there net formed =
     All-append (IsThere net.inputs gates) (flat_map (λ (row : GateRow). row.pins) net.gates) (flat_map end_drivers net.outputs)
     (gate_drivers-there net.inputs gates net.gates
     (λ place d below. All-weaker (IsThere net.inputs place) (IsThere net.inputs gates) (IsThere-more net.inputs place gates (omega arith)) (get_or net.gates place d).pins (formed.gates place d below).drivers))
-    (ends_drivers-there net.inputs gates net.outputs formed.outputs)
+    (All-end_drivers net.inputs gates net.outputs formed.outputs)
 
 -- One input, and then the rest.
 pub input_wires-next : (chained : Chained) (input next inputs : ℕ) → input < inputs →
@@ -47,10 +37,6 @@ pub input_wires-next : (chained : Chained) (input next inputs : ℕ) → input <
 input_wires-next chained input next inputs within =
     let more : inputs - input ≡ suc (inputs - (input + 1)) = omega arith in
     ap (input_wires chained input next) more
-
-pub length-input_wires : (chained : Chained) (input next more : ℕ) → length (input_wires chained input next more) ≡ more
-length-input_wires chained input next zero = refl
-length-input_wires chained input next (suc more) = omega (arith, length-input_wires chained (input + 1) (next + cond (is_used chained (Input input)) 1 0) more)
 
 pub one_at_most : (b : Bool) → cond b 1 0 ≤ 1
 one_at_most true = omega arith

@@ -8,19 +8,13 @@ use Rattle.gate_net.specs.declared.row.Driver.{Driver}
 use Rattle.gate_net.specs.declared.row.Driver.TheVariants.{Input, Gate}
 use Rattle.gate_net.specs.Rows.{same_driver}
 use Rattle.gate_net.specs.Net.{IsThere}
-use Rattle.splitters.specs.Taps.{with_pin, takers, tap_count, taps_from, taps_at, tap_at, slot, Gathers, HasTaps}
+use Rattle.splitters.specs.Taps.{with_pin, takers, tap_count, taps_from, taps_at}
+use Rattle.splitters.specs.Table.{tap_at, slot, HasTaps}
 
--- Before the first pin the table is empty.
-pub get_or-replicate_same : (A : Type 0) (n i : ℕ) (x : A) → get_or (replicate n x) i x ≡ x
-get_or-replicate_same A zero i x = refl
-get_or-replicate_same A (suc n) zero x = refl
-get_or-replicate_same A (suc n) (suc i) x = get_or-replicate_same A n i x
-
-pub Gathers-start : (inputs gates slots : ℕ) (needs : List ℕ) (drivers : List Driver) → Gathers inputs gates needs drivers (replicate slots []) 0 drivers
-Gathers-start inputs gates slots needs drivers = record {
-  count = λ driver there. rw (get_or-replicate_same (List (List ℕ)) slots (slot inputs driver) []) (omega arith);
-  pins = λ driver need there. rw (get_or-replicate_same (List (List ℕ)) slots (slot inputs driver) []) refl;
-}
+-- While the pins are gathered: what the table has, with what the pins from a number on add to it, is what all pins make.
+pub record Gathers (inputs gates : ℕ) (needs : List ℕ) (drivers : List Driver) (table : List (List (List ℕ))) (pin : ℕ) (rest : List Driver) : Type 0 where
+  pub count : (driver : Driver) → IsThere inputs gates driver → max (length (get_or table (slot inputs driver) [])) (tap_count needs driver pin rest) ≡ tap_count needs driver 0 drivers
+  pub pins : (driver : Driver) (need : ℕ) → IsThere inputs gates driver → tap_at (get_or table (slot inputs driver) []) need ++ takers needs driver need pin rest ≡ takers needs driver need 0 drivers
 
 -- Two drivers are the same, or stand at two places of the table.
 pub slot-same : (inputs gates : ℕ) (a b : Driver) → IsThere inputs gates a → IsThere inputs gates b → same_driver a b ≡ true → slot inputs a ≡ slot inputs b
@@ -141,11 +135,6 @@ taps-below inputs gates needs drivers table driver place taps has each there her
     read ∙ ap (λ (n : ℕ). get_or table n taps) here ∙ get_or_default table (slot inputs driver) taps [] within ∙ has driver there in
     subst (AreBelow (length drivers)) (sym same) (taps_from-below needs drivers driver 0 (tap_count needs driver 0 drivers))
 
--- A driver that is there has one of fewer than 2 ^ 31 gates.
-pub IsThere-few : (inputs gates : ℕ) (driver : Driver) → gates < 2 ^ 31 → IsThere inputs gates driver → IsThere inputs (2 ^ 31) driver
-IsThere-few inputs gates (Input i) few there = there
-IsThere-few inputs gates (Gate k) few there = omega arith
-
 -- The next pin goes to its tap, as the code does it: at a place of the table, with what was there before.
 pub Gathers-pin : (inputs gates : ℕ) (needs : List ℕ) (drivers : List Driver) (table : List (List (List ℕ))) (pin place need : ℕ) (taps old : List (List ℕ)) →
     pin < length drivers → IsThere inputs gates (get_or drivers pin (Input 0)) → place ≡ slot inputs (get_or drivers pin (Input 0)) → length table ≡ inputs + gates →
@@ -180,11 +169,11 @@ pub some-next : (same : Bool) (need more : ℕ) (any : Bool) → (0 < more → a
 some-next true need more any rest some = refl
 some-next false need more any rest some = rest (omega arith)
 
-pub tap_count-some : (needs : List ℕ) (driver : Driver) (pin : ℕ) (drivers : List Driver) → 0 < tap_count needs driver pin drivers → list_any (same_driver driver) drivers ≡ true
-tap_count-some needs driver pin [] some = absurd (omega arith)
-tap_count-some needs driver pin (other ∷ drivers) some =
+pub is_used-tap_count : (needs : List ℕ) (driver : Driver) (pin : ℕ) (drivers : List Driver) → 0 < tap_count needs driver pin drivers → list_any (same_driver driver) drivers ≡ true
+is_used-tap_count needs driver pin [] some = absurd (omega arith)
+is_used-tap_count needs driver pin (other ∷ drivers) some =
     some-next (same_driver driver other) (get_or needs pin 0) (tap_count needs driver (pin + 1) drivers) (list_any (same_driver driver) drivers)
-    (tap_count-some needs driver (pin + 1) drivers) some
+    (is_used-tap_count needs driver (pin + 1) drivers) some
 
 pub length-taps_from : (needs : List ℕ) (drivers : List Driver) (driver : Driver) (need count : ℕ) → length (taps_from needs drivers driver need count) ≡ count
 length-taps_from needs drivers driver need zero = refl
@@ -197,7 +186,7 @@ is_used-empty needs driver drivers taps true many tells =
     let none : length taps ≡ 0 = ap length (tells.0 refl) in
     sym (tap_count-none needs driver 0 drivers (sym many ∙ none))
 is_used-empty needs driver drivers [] false many tells = let never : false ≡ true = tells.1 refl in cc
-is_used-empty needs driver drivers (tap ∷ taps) false many tells = sym (tap_count-some needs driver 0 drivers (omega arith))
+is_used-empty needs driver drivers (tap ∷ taps) false many tells = sym (is_used-tap_count needs driver 0 drivers (omega arith))
 
 -- Whether the table has a tap for a driver tells whether it is used.
 pub is_used-taps : (inputs gates : ℕ) (needs : List ℕ) (drivers : List Driver) (table : List (List (List ℕ))) (driver : Driver) (place : ℕ) (taps : List (List ℕ)) (empty : Bool) →

@@ -15,7 +15,8 @@ use Rattle.splitters.specs.Elements.{Layout, take_wires, with_cell, with_last, w
 use Rattle.splitters.specs.Taps.{takers, tap_count, taps_from, taps_at}
 use Rattle.splitters.proofs.Trees.{length-spread_wires}
 use Rattle.splitters.proofs.WiredPins.{Marks, AreStaged, Agree, Agree-all, AreStaged-agree, and_tap, IsNew, AreStaged-held, length-taken}
-use Rattle.splitters.proofs.WiredChains.{DrivesNone, takers-behind, takers-last, with_taps, with_taps-new, with_taps-plus, with_taps-none, by_driver, and_driver, tap_count-late, Agree-chain}
+use Rattle.splitters.proofs.Takers.{DrivesNone, takers-last}
+use Rattle.splitters.proofs.WiredChains.{takers-behind, with_taps, with_taps-new, with_taps-plus, with_taps-none, by_driver, and_driver, tap_count-late, Agree-chain}
 use Rattle.splitters.proofs.UnfoldsWires.{Keeps, IsFresh, driver_of-found, with_wire-keeps, with_wire-found, with_wire-fresh, unfold-append, AreKept, AreKept-then, IsHanded, IsHanded-tree}
 
 -- what is known behind the elements so far

@@ -15,7 +15,8 @@ use Rattle.dro_chains.specs.declared.chain.Chained.{Chained}
 use Rattle.splitters.specs.Elements.{Layout, with_cell, with_chain, with_gate, with_gates, gate_pins}
 use Rattle.splitters.specs.Taps.{tap_count, taps_at}
 use Rattle.splitters.proofs.WiredPins.{AreStaged, Agree-all}
-use Rattle.splitters.proofs.WiredChains.{DrivesNone, by_driver, and_driver}
+use Rattle.splitters.proofs.Takers.{DrivesNone}
+use Rattle.splitters.proofs.WiredChains.{by_driver, and_driver}
 use Rattle.splitters.proofs.WiredGates.{pin_wires, pin_wires-take, AreReached, AreStaged-behind, before_gate, before_gate-there, before_gate-next, before_gate-late, DrivesNone-there, DrivesNone-append, AreGatesFrom}
 use Rattle.splitters.proofs.UnfoldsWires.{driver_of-found, with_wire-keeps, with_wire-found, with_wire-fresh, unfold-append}
 use Rattle.splitters.proofs.UnfoldsChains.{so_far, its_driver, Drives, AreStaged-keep, Step, Step-agree, Drives-chain}

@@ -141,7 +141,7 @@ epochs-back n (epoch ∷ epochs) [] each low = absurd (omega arith)
 epochs-back n (epoch ∷ epochs) (phase ∷ phases) each low =
     (λ i. epoch-back n epoch phase (All-head (λ phase. phase < n) phase phases low) i ∷ epochs-back n epochs phases (omega arith) (All-tail (λ phase. phase < n) phase phases low) i)
 
--- The netlist of chains unfolds to what the chains were made for.
+-- The netlist of chains unfolds to what the chains were made for, where these mean a netlist.
 pub chains_unfold : ChainsUnfold
 chains_unfold net phases n epochs names has =
     let chained = chained_of net phases n epochs in
@@ -161,7 +161,7 @@ chains_unfold net phases n epochs names has =
     let its_epochs : epochs_of n so.stages ≡ epochs.gates = ap (epochs_of n) stages ∙ epochs-back n epochs.gates phases each low in
     let passed = dros-passed layout.elements start in
     let none = ap length (made-inputs chained).dros in
-    let count = dros_are_the_count net phases n epochs names has in
+    let count = (dros_are_the_count net phases n epochs names has).1 in
     let its_dros : length so.dros ≡ dro_count (network_of net phases) epochs = omega (arith, passed, none) ∙ count in
     λ i. record {
       gates = record { inputs = inputs i; gates = built.gates i; outputs = outputs i };

@@ -25,7 +25,8 @@ use Rattle.dro_chains.specs.Chains.{chained_of}
 use Rattle.splitters.specs.Taps.{tap_count, taps_of, input_dros, gate_dros, chain_dros}
 use Rattle.splitters.specs.Laws.{DrosAreTheCount}
 use Rattle.splitters.proofs.WiredCounts.{nat_eq-other, nat_eq-differs}
-use Rattle.splitters.proofs.WiredDros.{length-taps_from, no-taps, dros_are_the_chains}
+use Rattle.splitters.proofs.TapLemmas.{length-taps_from}
+use Rattle.splitters.proofs.WiredDros.{no-taps, dros_are_the_chains}
 
 -- the driver of a use
 abbrev pub use_driver : Use → Driver
@@ -203,8 +204,8 @@ chains_are_the_count net phases n epochs formed =
     let none : sum (chain_lengths epochs (network_of net phases).pins (used_below (uses_of net) 0)) ≡ 0 = refl in
     omega (arith, b, c, y, v, u, none)
 
--- The chains of a netlist are laid out with as many DROs as their count says.
+-- They are laid out with as many DROs, and the count is the sum of the chain lengths.
 pub dros_are_the_count : DrosAreTheCount
 dros_are_the_count net phases n epochs names has =
     let formed = has.fits.network.formed in
-    dros_are_the_chains (chained_of net phases n epochs) names formed ∙ chains_are_the_count net phases n epochs formed
+    let same = dros_are_the_chains (chained_of net phases n epochs) names formed ∙ chains_are_the_count net phases n epochs formed in (same, same)

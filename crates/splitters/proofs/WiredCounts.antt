@@ -1,11 +1,14 @@
 -- How often a wire stands in a list, wires in a run of numbers, and what stays found while elements follow.
-use Rattle.std.proofs.Common.{◌≡◌, ℕ, zero, suc, ◌+◌, Bool, true, false, cond, nat_eq, List, [], ◌∷◌, ◌++◌, refl, ap, sym, ◌∙◌, arith}
+use Rattle.std.proofs.Common.{◌≡◌, ◌≤◌, ℕ, zero, suc, ◌+◌, Bool, true, false, cond, nat_eq, ◌||◌, List, [], ◌∷◌, ◌++◌, refl, ap, sym, ◌∙◌, arith}
 use Rattle.std.proofs.lemmas.Bool.{true≢false, eqb-true}
+use Rattle.std.proofs.lemmas.Map.Keys.{IsDistinct-cons, IsDistinct-from_apart}
 use Rattle.std.specs.Prelude.{Some, None, ⊤}
+use Rattle.std.specs.List.{IsDistinct, AllByRecursion}
 use Rattle.std.specs.Cmp.{nat_eq_equiv}
 use Rattle.pulse_net.specs.declared.net.Element.{Element}
 use Rattle.pulse_net.specs.Wires.{Wires, found, element_wires, after_elements, cell_stage}
 use Rattle.pulse_net.specs.Wired.{ElementsInTime}
+use Rattle.pulse_net.specs.Validity.{is_among}
 
 -- one for the wire itself, and nothing for another
 pub once : ℕ → ℕ → ℕ
@@ -104,3 +107,35 @@ once-same wire other e = ap (λ b. cond b 1 0) e
 pub once-other : (wire other : ℕ) → nat_eq wire other ≡ false → once wire other ≡ 0
 unfolding once
 once-other wire other e = ap (λ b. cond b 1 0) e
+
+-- where a wire stands nowhere, and where none stands twice
+apart-once : (wire : ℕ) (wires : List ℕ) → times wire wires ≡ 0 → AllByRecursion (λ y. nat_eq wire y ≡ false) wires
+apart-once wire [] h = tt
+apart-once wire (other ∷ wires) h = (by (nat_eq wire other) refl, apart-once wire wires (omega arith))
+  where
+    by : (here : Bool) → nat_eq wire other ≡ here → here ≡ false
+    by true e = let o = once-same wire other e in absurd (omega (arith, o, h))
+    by false e = refl
+
+pub distinct-once : (wires : List ℕ) → ((wire : ℕ) → times wire wires ≤ 1) → IsDistinct nat_eq wires
+distinct-once [] h = IsDistinct-from_apart nat_eq [] (λ i j d before within. absurd (omega arith))
+distinct-once (wire ∷ wires) h =
+    let here = h wire in
+    let one = once-same wire wire (nat_eq_equiv.refl wire) in
+    IsDistinct-cons nat_eq wire wires (apart-once wire wires (omega (arith, here, one))) (distinct-once wires (λ other. let o = h other in omega (arith, o)))
+
+pub among-times : (wires : List ℕ) (wire : ℕ) → is_among wires wire ≡ true → 1 ≤ times wire wires
+among-times [] wire h = absurd (true≢false (sym h))
+among-times (other ∷ wires) wire h = by (nat_eq wire other) refl (among-times wires wire) h
+  where
+    by : (here : Bool) → nat_eq wire other ≡ here → (is_among wires wire ≡ true → 1 ≤ times wire wires) → (here || is_among wires wire) ≡ true → 1 ≤ once wire other + times wire wires
+    by true e rest h = let o = once-same wire other e in omega (arith, o)
+    by false e rest h = let r = rest h in omega (arith, r)
+
+pub times-among : (wires : List ℕ) (wire : ℕ) → 1 ≤ times wire wires → is_among wires wire ≡ true
+times-among [] wire h = absurd (omega arith)
+times-among (other ∷ wires) wire h = by (nat_eq wire other) refl (times-among wires wire)
+  where
+    by : (here : Bool) → nat_eq wire other ≡ here → (1 ≤ times wire wires → is_among wires wire ≡ true) → (here || is_among wires wire) ≡ true
+    by true e rest = refl
+    by false e rest = let o = once-other wire other e in rest (omega (arith, o, h))

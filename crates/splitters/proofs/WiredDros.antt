@@ -17,6 +17,7 @@ use Rattle.splitters.specs.Spread.{first_half, tree_lines, spread_lines}
 use Rattle.splitters.specs.Elements.{Layout, tap_wires, with_tap, with_dro, with_chain, input_wires, with_inputs, with_cell, with_gate, with_gates, inputs_of, empty_layout}
 use Rattle.splitters.specs.Taps.{tap_count, taps_from, taps_of, is_used, input_dros, gate_dros}
 use Rattle.splitters.specs.Laws.{is_dro, dros, DrosAreTheChains}
+use Rattle.splitters.proofs.TapLemmas.{length-taps_from}
 use Rattle.splitters.proofs.WiredGates.{AreGatesFrom}
 use Rattle.splitters.proofs.WiredWhole.{gates-from}
 
@@ -68,10 +69,6 @@ tap_count-unused needs driver pin (other ∷ drivers) h = by (same_driver driver
         max (cond same (get_or needs pin 0 + 1) 0) (tap_count needs driver (pin + 1) drivers) ≡ 0
     by true h rest = absurd (true≢false h)
     by false h rest = let r = rest h in omega (arith, r)
-
-pub length-taps_from : (needs : List ℕ) (drivers : List Driver) (driver : Driver) (need count : ℕ) → length (taps_from needs drivers driver need count) ≡ count
-length-taps_from needs drivers driver need zero = refl
-length-taps_from needs drivers driver need (suc count) = ap suc (length-taps_from needs drivers driver (need + 1) count)
 
 pub no-taps : (chained : Chained) (driver : Driver) → is_used chained driver ≡ false → length (taps_of chained driver) ≡ 0
 no-taps chained driver h =

@@ -22,7 +22,8 @@ use Rattle.splitters.specs.Laws.{tap_stage, PinsInTime, GatesInTime}
 use Rattle.splitters.proofs.WiredCounts.{once, times, times-append, after, nat_eq-other, nat_eq-differs}
 use Rattle.splitters.proofs.WiredFrontier.{IsLaid-waits, IsLaid-cell}
 use Rattle.splitters.proofs.WiredPins.{Marks, held, AreStaged, Agree-all}
-use Rattle.splitters.proofs.WiredChains.{Stands, Stands-agree, AreStaged-step, GoesOn, DrivesNone, by_driver, and_driver, Stands-chain}
+use Rattle.splitters.proofs.Takers.{DrivesNone}
+use Rattle.splitters.proofs.WiredChains.{Stands, Stands-agree, AreStaged-step, GoesOn, by_driver, and_driver, Stands-chain}
 
 -- the wires of these pins, from a number on
 abbrev pub pin_wires : List ℕ → ℕ → List Driver → List ℕ

@@ -1,4 +1,4 @@
--- The chains of balanced epochs keep time: a pin's need leaves 1 to n ticks, whatever the phases.
+-- Chains that mean a netlist keep time: a pin's need leaves 1 to n ticks, whatever the phases.
 use Rattle.std.proofs.Common.{◌≡◌, ◌≤◌, ◌<◌, ℕ, zero, suc, ◌+◌, ◌-◌, ◌*◌, List, [], ◌∷◌, ◌++◌, length, get_or, map, All, refl, ap, sym, subst, ◌∙◌, arith, length-append, append_assoc}
 use Rattle.std.proofs.lemmas.List.{append-nil, length-map}
 use Rattle.std.proofs.lemmas.List.Elements.{All-head, All-tail, recursion_from_All}
@@ -25,6 +25,7 @@ use Rattle.dro_chains.specs.declared.chain.Chained.{Chained}
 use Rattle.splitters.specs.Elements.{gate_pins}
 use Rattle.splitters.specs.Taps.{driver_stage}
 use Rattle.splitters.specs.Laws.{PinsInTime, GatesInTime, ChainsKeepTime, ChainsAreValid}
+use Rattle.splitters.proofs.LayoutLemmas.{length-gate_drivers}
 use Rattle.splitters.proofs.WiredGates.{AreGatesFrom}
 use Rattle.splitters.proofs.WiredWhole.{gates-from, layout_is_valid}
 
@@ -54,10 +55,6 @@ get_or-stages n [] phases k d low within = absurd (omega arith)
 get_or-stages n (epoch ∷ epochs) [] k d low within = absurd (omega arith)
 get_or-stages n (epoch ∷ epochs) (phase ∷ phases) zero d low within = refl
 get_or-stages n (epoch ∷ epochs) (phase ∷ phases) (suc k) d low within = get_or-stages n epochs phases k d (omega arith) (omega arith)
-
-get_or-middle : {A : Type 0} (f : A → ℕ) (before after : List A) (x : A) → get_or (map f (before ++ x ∷ after)) (length before) 0 ≡ f x
-get_or-middle f [] after x = refl
-get_or-middle f (y ∷ before) after x = get_or-middle f before after x
 
 all-middle : {A B : Type 0} (P : B → Type 0) (g : A → B) (before after : List A) (x : A) → AllByRecursion P (map g (before ++ x ∷ after)) → P (g x)
 all-middle P g [] after x all = all.0
@@ -168,15 +165,11 @@ length-gate_uses user (row ∷ rows) =
     let many = length-map row.pins (use_by user) in
     omega (arith, rest, many, length-append (map (use_by user) row.pins) (gate_uses (suc user) rows))
 
-length-row_pins : (rows : List GateRow) → length (flat_map (λ (row : GateRow). row.pins) rows) ≡ gate_pins rows
-length-row_pins [] = refl
-length-row_pins (row ∷ rows) = let rest = length-row_pins rows in omega (arith, rest, length-append row.pins (flat_map (λ (row : GateRow). row.pins) rows))
-
 none-used : (uses : List Use) → length uses ≡ 0 → uses ≡ []
 none-used [] h = refl
 none-used (u ∷ uses) h = absurd (omega arith)
 
--- The chains of balanced epochs keep time.
+-- Chains that mean a netlist keep time.
 pub chains_keep_time : ChainsKeepTime
 chains_keep_time net phases n epochs has =
     let chained = chained_of net phases n epochs in
@@ -222,7 +215,7 @@ chains_keep_time net phases n epochs has =
       empty = λ none.
           let a = ap length none in
           let b = length-append (flat_map (λ (row : GateRow). row.pins) rows) outs in
-          let c = length-row_pins rows in
+          let c = length-gate_drivers rows in
           let d = length-append by_gates last in
           let f = length-gate_uses 1 rows in
           let g = length-map outs (use_by sink) in

@@ -23,45 +23,12 @@ use Rattle.dro_chains.specs.declared.chain.Chained.{Chained}
 use Rattle.splitters.specs.Elements.{wire_count, with_inputs, gate_pins, outlets, inputs_of, empty_layout, layout_of, elements_of}
 use Rattle.splitters.specs.Taps.{with_pin, tap_count}
 use Rattle.splitters.specs.Laws.{tap_stage, PinsInTime, KeepsTime, LayoutIsValid}
-use Rattle.splitters.proofs.WiredCounts.{once, times, times-append, run, run-split, after, AreFound, once-same, once-other}
+use Rattle.splitters.proofs.WiredCounts.{once, times, times-append, run, run-split, after, AreFound, once-same, distinct-once, among-times, times-among}
 use Rattle.splitters.proofs.WiredPins.{Marks, held, AreStaged, Agree}
-use Rattle.splitters.proofs.WiredChains.{Stands, Stands-agree, DrivesNone, by_driver, tap_count-late}
+use Rattle.splitters.proofs.Takers.{DrivesNone}
+use Rattle.splitters.proofs.WiredChains.{Stands, Stands-agree, by_driver, tap_count-late}
 use Rattle.splitters.proofs.WiredGates.{pin_wires, AreReached, held-reached, before_gate, AreGatesFrom, tap_count-gate, Stands-gates, DrivesNone-there, DrivesNone-append}
 use Rattle.splitters.proofs.WiredInputs.{times-run_out, times-run_once, input_wires-run, length-input_wires, found-input, found-no_input, before_input, Stands-inputs}
-
--- ---- lists of wires
-
--- where no wire stands twice
-apart-once : (wire : ℕ) (wires : List ℕ) → times wire wires ≡ 0 → AllByRecursion (λ y. nat_eq wire y ≡ false) wires
-apart-once wire [] h = tt
-apart-once wire (other ∷ wires) h = (by (nat_eq wire other) refl, apart-once wire wires (omega arith))
-  where
-    by : (here : Bool) → nat_eq wire other ≡ here → here ≡ false
-    by true e = let o = once-same wire other e in absurd (omega (arith, o, h))
-    by false e = refl
-
-distinct-once : (wires : List ℕ) → ((wire : ℕ) → times wire wires ≤ 1) → IsDistinct nat_eq wires
-distinct-once [] h = IsDistinct-from_apart nat_eq [] (λ i j d before within. absurd (omega arith))
-distinct-once (wire ∷ wires) h =
-    let here = h wire in
-    let one = once-same wire wire (nat_eq_equiv.refl wire) in
-    IsDistinct-cons nat_eq wire wires (apart-once wire wires (omega (arith, here, one))) (distinct-once wires (λ other. let o = h other in omega (arith, o)))
-
-among-times : (wires : List ℕ) (wire : ℕ) → is_among wires wire ≡ true → 1 ≤ times wire wires
-among-times [] wire h = absurd (true≢false (sym h))
-among-times (other ∷ wires) wire h = by (nat_eq wire other) refl (among-times wires wire) h
-  where
-    by : (here : Bool) → nat_eq wire other ≡ here → (is_among wires wire ≡ true → 1 ≤ times wire wires) → (here || is_among wires wire) ≡ true → 1 ≤ once wire other + times wire wires
-    by true e rest h = let o = once-same wire other e in omega (arith, o)
-    by false e rest h = let r = rest h in omega (arith, r)
-
-times-among : (wires : List ℕ) (wire : ℕ) → 1 ≤ times wire wires → is_among wires wire ≡ true
-times-among [] wire h = absurd (omega arith)
-times-among (other ∷ wires) wire h = by (nat_eq wire other) refl (times-among wires wire)
-  where
-    by : (here : Bool) → nat_eq wire other ≡ here → (1 ≤ times wire wires → is_among wires wire ≡ true) → (here || is_among wires wire) ≡ true
-    by true e rest = refl
-    by false e rest = let o = once-other wire other e in rest (omega (arith, o, h))
 
 -- ---- outputs
 

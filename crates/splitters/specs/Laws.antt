@@ -1,5 +1,5 @@
 -- What is proved of the netlist of gates with shared chains.
-use Rattle.std.specs.Prelude.{◌≡◌, ◌≤◌, ℕ, ◌+◌, ◌*◌, Bool, true, false, cond, List, [], ◌∷◌, length, slice_index, ⊤, flat_map}
+use Rattle.std.specs.Prelude.{◌≡◌, ◌≤◌, ℕ, ◌+◌, ◌*◌, Bool, true, false, cond, List, [], ◌∷◌, length, slice_index, sum, ⊤, flat_map}
 use Rattle.cell_lib.specs.declared.cell.Cell.{Cell}
 use Rattle.cell_lib.specs.declared.cell.Cell.TheVariants.{Dro, Not, And, Or, Xor}
 use Rattle.gate_net.specs.declared.row.Driver.{Driver}
@@ -8,6 +8,8 @@ use Rattle.gate_net.specs.Net.{pin_drivers, end_drivers, IsGateNet, EachGateIsUs
 use Rattle.pulse_net.specs.declared.net.Element.{Element}
 use Rattle.pulse_net.specs.declared.net.Element.TheVariants.{Clocked, Split}
 use Rattle.pulse_net.specs.declared.net.Names.{Names}
+use Rattle.pulse_net.specs.declared.net.PulseNet.{PulseNet}
+use Rattle.pulse_net.specs.declared.net.TheConstants.{MAX_PHASES}
 use Rattle.pulse_net.specs.Wired.{IsInTime}
 use Rattle.pulse_net.specs.Validity.{IsValid}
 use Rattle.pulse_net.specs.Unfolding.{unfolded}
@@ -43,7 +45,7 @@ pub record KeepsTime (chained : Chained) : Type 0 where
   pub formed : IsGateNet chained.gates
   pub used : EachGateIsUsed chained.gates
   pub some_phase : 1 ≤ chained.n
-  pub few_phases : chained.n ≤ 16
+  pub few_phases : chained.n ≤ MAX_PHASES
   pub latency : 1 ≤ chained.latency
   pub gates : GatesInTime chained 0 0 chained.gates.gates
   pub outputs : PinsInTime chained (chained.n * chained.latency) (gate_pins chained.gates.gates) (flat_map end_drivers chained.gates.outputs)
@@ -58,11 +60,11 @@ pub record HasNames (chained : Chained) (names : Names) : Type 0 where
 abbrev pub LayoutIsValid : Type 0
 LayoutIsValid = (chained : Chained) (names : Names) → KeepsTime chained → HasNames chained names → IsValid (elements_of chained names)
 
--- The chains of balanced epochs keep time.
+-- Chains that mean a netlist keep time.
 abbrev pub ChainsKeepTime : Type 0
 ChainsKeepTime = (net : GateNet) (phases : List ℕ) (n : ℕ) (epochs : Epochs) → HasChains net phases n epochs → KeepsTime (chained_of net phases n epochs)
 
--- The chains of balanced epochs can be laid out, where they have no more DROs than `chains` allows.
+-- Chains that mean a netlist can be laid out, where they have no more DROs than `chains` allows.
 abbrev pub ChainsCanBeSplit : Type 0
 ChainsCanBeSplit =
     (net : GateNet) (phases : List ℕ) (n : ℕ) (epochs : Epochs) → HasChains net phases n epochs
@@ -94,16 +96,24 @@ DrosAreTheChains =
     (chained : Chained) (names : Names) → IsGateNet chained.gates
     → dros (elements_of chained names).elements ≡ chain_dros chained
 
--- The chains of a netlist are laid out with as many DROs as their count says.
+-- Chains that mean a netlist are laid out with as many DROs as the chain lengths sum up to, which is their DRO count.
 abbrev pub DrosAreTheCount : Type 0
 DrosAreTheCount =
     (net : GateNet) (phases : List ℕ) (n : ℕ) (epochs : Epochs) (names : Names) → HasChains net phases n epochs
-    → dros (elements_of (chained_of net phases n epochs) names).elements ≡ dro_count (network_of net phases) epochs
+    → (dros (elements_of (chained_of net phases n epochs) names).elements ≡ sum (chained_of net phases n epochs).lengths)
+    × (dros (elements_of (chained_of net phases n epochs) names).elements ≡ dro_count (network_of net phases) epochs)
 
--- The netlist of a netlist's chains unfolds to the gates, the phases and the epochs that the chains were made for, with as
--- many DROs as the DRO count.
+-- Chains that mean a netlist are laid out as one that unfolds to the gates, the phases and the epochs that the chains were
+-- made for, with as many DROs as the DRO count.
 abbrev pub ChainsUnfold : Type 0
 ChainsUnfold =
     (net : GateNet) (phases : List ℕ) (n : ℕ) (epochs : Epochs) (names : Names) → HasChains net phases n epochs
     → unfolded (elements_of (chained_of net phases n epochs) names)
     ≡ record { gates = net; phases = phases; epochs = epochs; dros = dro_count (network_of net phases) epochs }
+
+-- The same of chains and a netlist at hand: where the chains are those of gates, phases and epochs and mean a netlist, the
+-- netlist unfolds to these gates, phases and epochs, with as many DROs as the chain lengths sum up to.
+abbrev pub UnfoldsBack : Chained → PulseNet → Type 0
+UnfoldsBack chained net =
+    (gates : GateNet) (phases : List ℕ) (n : ℕ) (epochs : Epochs) → HasChains gates phases n epochs → chained ≡ chained_of gates phases n epochs
+    → unfolded net ≡ record { gates = gates; phases = phases; epochs = epochs; dros = sum chained.lengths }

@@ -41,28 +41,6 @@ taps_of chained driver = taps_at chained.needs (pin_drivers chained.gates) drive
 abbrev pub is_used : Chained → Driver → Bool
 is_used chained driver = list_any (same_driver driver) (pin_drivers chained.gates)
 
--- the place of a driver in a table of inputs and then gates
-abbrev pub slot : ℕ → Driver → ℕ
-slot inputs (Input i) = i
-slot inputs (Gate k) = inputs + k
-
--- the pins of a tap, none past the last
-abbrev pub tap_at : List (List ℕ) → ℕ → List ℕ
-tap_at taps need = slice_index_or taps need []
-
--- what a table of taps has, with what the pins from a number on add to it, is what all pins make
-pub record Gathers (inputs gates : ℕ) (needs : List ℕ) (drivers : List Driver) (table : List (List (List ℕ))) (pin : ℕ) (rest : List Driver) : Type 0 where
-  pub count : (driver : Driver) → IsThere inputs gates driver → max (length (slice_index_or table (slot inputs driver) [])) (tap_count needs driver pin rest) ≡ tap_count needs driver 0 drivers
-  pub pins : (driver : Driver) (need : ℕ) → IsThere inputs gates driver → tap_at (slice_index_or table (slot inputs driver) []) need ++ takers needs driver need pin rest ≡ takers needs driver need 0 drivers
-
--- the table has the taps of each driver
-abbrev pub HasTaps : ℕ → ℕ → List ℕ → List Driver → List (List (List ℕ)) → Type 0
-HasTaps inputs gates needs drivers table = (driver : Driver) → IsThere inputs gates driver → slice_index_or table (slot inputs driver) [] ≡ taps_at needs drivers driver
-
--- the table has the length of each driver's chain, its largest need
-abbrev pub HasLengths : ℕ → ℕ → List ℕ → List Driver → List ℕ → Type 0
-HasLengths inputs gates needs drivers lengths = (driver : Driver) → IsThere inputs gates driver → slice_index lengths (slot inputs driver) ≡ tap_count needs driver 0 drivers - 1
-
 -- the stage of a driver: 0 of an input, and a gate's own
 abbrev pub driver_stage : Chained → Driver → ℕ
 driver_stage chained (Input i) = 0
@@ -99,11 +77,3 @@ pub record CanSplit (chained : Chained) : Type 0 where
   pub few_pins : length (pin_drivers chained.gates) < 2 ^ 31
   pub stages : StagesFit chained
   pub few_wires : FewWires chained
-
--- gates with their chains and the table of their taps, of which the pins and the stages fit
-pub record IsTapped (chained : Chained) (table : List (List (List ℕ))) : Type 0 where
-  pub formed : IsGateNet chained.gates
-  pub few_pins : length (pin_drivers chained.gates) < 2 ^ 31
-  pub fits : StagesFit chained
-  pub each : length table ≡ chained.gates.inputs + length chained.gates.gates
-  pub taps : HasTaps chained.gates.inputs (length chained.gates.gates) chained.needs (pin_drivers chained.gates) table

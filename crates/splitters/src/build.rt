@@ -3,8 +3,11 @@
 ghost use Rattle.std.specs.Prelude.{◌≡◌, ◌<◌, ◌+◌, ◌-◌, ◌^◌, ◌++◌, ◌∷◌, [], cond, IfOk, OnOk, length};
 ghost use Rattle.gate_net.specs.declared.row.Driver.TheVariants.{Input};
 ghost use Rattle.gate_net.specs.Net.{IsGateNet, pin_drivers};
-ghost use Rattle.splitters.specs.Taps.{CanSplit, IsTapped, StagesFit, is_used};
+ghost use Rattle.pulse_net.specs.Validity.{IsValid};
+ghost use Rattle.splitters.specs.Taps.{CanSplit, StagesFit, is_used};
+ghost use Rattle.splitters.specs.Table.{IsTapped};
 ghost use Rattle.splitters.specs.Elements.{inputs_of, wire_count, gate_pins, outlets, layout_of, elements_of};
+ghost use Rattle.splitters.specs.Laws.{HasNames, KeepsTime, UnfoldsBack};
 
 use crate::drivers::{lay_gates, lay_inputs};
 use crate::layout::Layout;
@@ -142,6 +145,7 @@ fn lay_out(
     requires room { (layout_of chained.now).next + 2 < 2 ^ 32 }
     ensures { IfOk result (λ layout. layout ≡ layout_of chained.now) }
 {
+    // Read for the proof alone: as a `u32` it bounds the number of inputs, so that each place fits one.
     let _inputs = chained.gates.inputs;
     let mut layout = Layout::new(alloc, wire_count(inputs), pins)?;
     lay_inputs(alloc, &mut layout, chained, table, inputs)?;
@@ -159,10 +163,15 @@ fn output_wires(alloc: Global, chained: &Chained, taken: &[u32]) -> Result<Vec<O
     outlets(alloc, taken, first, chained.gates.outputs.as_slice())
 }
 
-/// The netlist of gates with shared chains: splitter trees, DROs and wires. It fails only where a request for memory does.
+/// The netlist of gates with shared chains: splitter trees, DROs and wires. There is a name for each input and each
+/// output. It is valid where the chains keep time, and chains that mean a netlist give back the gates, phases and epochs
+/// that they were made for. `NoMemory` is the only error: the numbers of wires always fit.
 pub fn split(alloc: Global, chained: Chained, names: Names) -> Result<PulseNet, NoMemory>
-    requires { CanSplit chained }
-    ensures { IfOk result (λ net. net ≡ elements_of chained names) }
+    requires fits { CanSplit chained }
+    requires names { HasNames chained names }
+    ensures elements { IfOk result (λ net. net ≡ elements_of chained names) }
+    ensures valid { KeepsTime chained → IfOk result IsValid }
+    ensures unfolds { IfOk result (UnfoldsBack chained) }
 {
     let drivers = pin_drivers(alloc, &chained.gates)?;
     let table = tap_table(alloc, &chained, drivers.as_slice())?;
@@ -183,90 +192,4 @@ pub fn split(alloc: Global, chained: Chained, names: Names) -> Result<PulseNet, 
         elements: layout.into_elements(),
         outputs: List::from_vec(outputs),
     })
-}
-
-#[cfg(test)]
-mod tests {
-    use super::*;
-    use crate::can_split;
-    use cell_lib::{Cell, rank};
-    use gate_net::GateNet;
-    use net_base::Name;
-    use pulse_net::Element;
-    use std::test::Fail;
-
-    const SPLIT: u32 = 9;
-
-    // The rank of the cell, its stage, its first and last pin, and its wire; or the three wires of a splitter.
-    fn line(element: &Element) -> [u32; 5] {
-        match element {
-            Element::Split { from, left, right } => [SPLIT, *from, *left, *right, 0],
-            Element::Clocked {
-                cell,
-                stage,
-                pins,
-                out,
-            } => {
-                let pins = pins.as_slice();
-                let first = pins.first().copied().unwrap_or(0);
-                let last = pins.last().copied().unwrap_or(0);
-                [rank(*cell), *stage, first, last, *out]
-            }
-        }
-    }
-
-    fn list(alloc: Global, numbers: &[u32]) -> Result<List<u32>, NoMemory> {
-        Ok(List::from_vec(numbers.to_vec(alloc)?))
-    }
-
-    // (not a and a) or a: the input's chain has two DROs, one for each epoch that it waits.
-    #[test]
-    fn the_input_is_spread_over_its_chain_and_its_pins(rt: HostRuntime) -> Result<(), Fail> {
-        let alloc = rt.alloc();
-        let a = Driver::Input(0);
-        let mut gates = GateNet::new(alloc, 1);
-        gates.gate(Cell::Not, List::from_vec([a].to_vec(alloc)?))?;
-        gates.gate(
-            Cell::And,
-            List::from_vec([a, Driver::Gate(0)].to_vec(alloc)?),
-        )?;
-        gates.gate(
-            Cell::Or,
-            List::from_vec([a, Driver::Gate(1)].to_vec(alloc)?),
-        )?;
-        gates.output(End::From(Driver::Gate(2)))?;
-        let chained = Chained {
-            gates,
-            n: 1,
-            stages: list(alloc, &[1, 2, 3])?,
-            latency: 4,
-            lengths: list(alloc, &[2, 0, 0, 0])?,
-            needs: list(alloc, &[0, 1, 0, 2, 0, 0])?,
-        };
-        assert!(rt; can_split(alloc, &chained)?);
-        let names = Names {
-            model: Name::of(alloc, b"m")?,
-            inputs: List::new(alloc),
-            outputs: List::new(alloc),
-        };
-        let net = split(alloc, chained, names)?;
-        let wanted = [
-            [SPLIT, 0, 1, 2, 0],
-            [0, 1, 1, 1, 3],
-            [SPLIT, 3, 4, 5, 0],
-            [0, 2, 4, 4, 6],
-            [1, 1, 2, 2, 7],
-            [2, 2, 5, 7, 8],
-            [3, 3, 6, 8, 9],
-        ];
-        let mut lines = Vec::new(alloc);
-        for element in net.elements.as_slice() {
-            lines.push(line(element))?;
-        }
-        assert_eq!(rt; lines.as_slice(), wanted.as_slice());
-        assert_eq!(rt; net.inputs.as_slice(), [Some(0)].as_slice());
-        assert_eq!(rt; net.outputs.as_slice(), [Outlet::Wire(9)].as_slice());
-        assert_eq!(rt; [net.phases, net.latency], [1u32, 4]);
-        Ok(())
-    }
 }

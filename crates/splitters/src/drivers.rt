@@ -2,7 +2,8 @@
 
 ghost use Rattle.std.specs.Prelude.{◌≡◌, ◌<◌, ◌≤◌, ◌+◌, ◌*◌, ◌-◌, ◌^◌, IfOk, OnOk, length};
 ghost use Rattle.gate_net.specs.Net.{IsThere, pin_drivers};
-ghost use Rattle.splitters.specs.Taps.{IsTapped, driver_stage, taps_of};
+ghost use Rattle.splitters.specs.Taps.{driver_stage, taps_of};
+ghost use Rattle.splitters.specs.Table.{IsTapped};
 ghost use Rattle.splitters.specs.Elements.{with_chain, with_gate, with_gates, with_inputs, gate_pins};
 
 use crate::layout::Layout;
@@ -43,7 +44,7 @@ fn lay_chain(
     ensures pins { OnOk result (length layout.new.taken ≡ length layout.old.taken) }
 {
     let taps = &table[slot(chained.gates.inputs, driver)];
-    layout.chain(
+    layout.lay_chain(
         alloc,
         chained.n,
         stage(chained, driver),
@@ -62,12 +63,12 @@ pub(crate) fn lay_inputs(
 ) -> Result<(), NoMemory>
     requires tapped { IsTapped chained.now table.now }
     requires inputs { length wires.now ≡ chained.now.gates.inputs }
+    requires few { length wires.now < 2 ^ 32 }
     requires pins { length layout.old.taken ≡ length (pin_drivers chained.now.gates) }
     requires room { (with_inputs chained.now 0 wires.now layout.old).next + 2 < 2 ^ 32 }
     ensures ok { OnOk result (layout.new ≡ with_inputs chained.now 0 wires.now layout.old) }
     ensures pins { OnOk result (length layout.new.taken ≡ length layout.old.taken) }
 {
-    let _inputs = chained.gates.inputs;
     for (i, wire) in wires.iter().enumerate() {
         if let Some(wire) = *wire {
             lay_chain(alloc, layout, chained, table, Driver::Input(i as u32), wire)?;

@@ -2,7 +2,8 @@
 
 ghost use Rattle.std.specs.Prelude.{◌≡◌, ◌<◌, ◌+◌, ◌*◌, ◌^◌, ◌↔◌, All, IsTrue, IfOk, length, sum};
 ghost use Rattle.gate_net.specs.Net.{IsGateNet, IsThere, pin_drivers};
-ghost use Rattle.splitters.specs.Taps.{CanSplit, FewWires, HasLengths, StagesFit};
+ghost use Rattle.splitters.specs.Taps.{CanSplit, FewWires, StagesFit};
+ghost use Rattle.splitters.specs.Table.{HasLengths};
 
 use crate::drivers::stage;
 use crate::table::{need, pin_drivers, slot};
@@ -88,10 +89,11 @@ fn wires_fit(alloc: Global, chained: &Chained, drivers: &[Driver]) -> Result<boo
 
 /// Whether gates with shared chains can be laid out: they have fewer than 2 ^ 31 pins, the stage of each DRO fits, and so
 /// do the numbers of wires, by their count of DROs, pins and gates.
-/// The answer of `chains` for balanced epochs always can (`chains_can_be_split`); this is for a caller with other gates.
+/// What `chains` answers always can, where it means a netlist (`chains_can_be_split`); this is for a caller with other
+/// chains. `NoMemory` is the only error.
 pub fn can_split(alloc: Global, chained: &Chained) -> Result<bool, NoMemory>
     requires { IsGateNet chained.now.gates }
-    ensures { IfOk result (λ can. IsTrue can ↔ CanSplit chained.now) }
+    ensures exact { IfOk result (λ can. IsTrue can ↔ CanSplit chained.now) }
 {
     let drivers = pin_drivers(alloc, &chained.gates)?;
     if drivers.len() >= 1 << 31 || !stages_fit(chained, drivers.as_slice()) {

@@ -1,25 +1,27 @@
 //! What the layout of gates with shared chains means, as laws. A law takes nothing and does nothing: its clause is the law.
+//! Which chains mean a netlist (`HasChains`) stands on the crate's page.
 
 ghost use Rattle.splitters.specs.Laws.{ChainsAreValid, ChainsCanBeSplit, ChainsKeepTime, ChainsUnfold, DrosAreTheChains, DrosAreTheCount, LayoutIsValid};
 
 /// Where each gate has a use, and each pin takes from its tap 1 to n ticks before its gate or before the reading, the
-/// netlist of gates with shared chains is valid: each wire is made once and used once, and each is read in time.
+/// netlist of gates with shared chains is valid, if the names fit: each wire is made once and used once, and each is read in
+/// time.
 pub fn layout_is_valid()
     ensures { LayoutIsValid }
 {}
 
-/// The chains of balanced epochs keep time: the DROs that a pin needs leave 1 to n ticks to its user.
+/// Chains that mean a netlist keep time: the DROs that a pin needs leave 1 to n ticks to its user.
 pub fn chains_keep_time()
     ensures { ChainsKeepTime }
 {}
 
-/// The answer of `chains` for balanced epochs can be laid out: each tap stands before its user, whose stage fits, and with
-/// at most `MAX_DROS` DROs, of which `chains` never makes more, the wires are few.
+/// Chains that mean a netlist can be laid out: each tap stands before its user, whose stage fits, and with at most
+/// `MAX_DROS` DROs, of which `chains` never makes more, the wires are few.
 pub fn chains_can_be_split()
     ensures { ChainsCanBeSplit }
 {}
 
-/// The answer of `chains` for balanced epochs is laid out as a valid netlist, where each input and output has its name.
+/// Chains that mean a netlist are laid out as a valid one, where each input and output has its name.
 pub fn chains_are_valid()
     ensures { ChainsAreValid }
 {}
@@ -29,13 +31,13 @@ pub fn dros_are_the_chains()
     ensures { DrosAreTheChains }
 {}
 
-/// The answer of `chains` for balanced epochs is laid out with as many DROs as the DRO count of the epochs.
+/// Chains that mean a netlist are laid out with as many DROs as their lengths sum up to, which is the DRO count of the epochs.
 pub fn dros_are_the_count()
     ensures { DrosAreTheCount }
 {}
 
-/// The answer of `chains` for balanced epochs is laid out as a netlist that unfolds to the gates, the phases and the epochs
-/// that it was made for, with as many DROs as the DRO count of the epochs.
+/// Chains that mean a netlist are laid out as one that unfolds to the gates, the phases and the epochs that they were made
+/// for, with as many DROs as the DRO count of the epochs.
 pub fn chains_unfold()
     ensures { ChainsUnfold }
 {}

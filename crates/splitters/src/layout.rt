@@ -82,13 +82,6 @@ impl Layout {
         Ok(List::from_vec(wires))
     }
 
-    /// The next wire.
-    pub(crate) fn next(&self) -> u32
-        ensures { result ≡ self.now.next }
-    {
-        self.next
-    }
-
     /// The wires of all pins, in the order of pins.
     pub(crate) fn taken(&self) -> &[u32]
         ensures { result.now ≡ self.now.taken }
@@ -119,7 +112,7 @@ impl Layout {
     }
 
     // The last wire of a chain is spread over its pins.
-    fn last(&mut self, alloc: Global, wire: u32, pins: &[u32]) -> Result<(), NoMemory>
+    fn lay_last(&mut self, alloc: Global, wire: u32, pins: &[u32]) -> Result<(), NoMemory>
         requires below { All (λ pin. pin < length self.old.taken) pins.now }
         requires room { (with_last wire pins.now self.old).next + 2 < 2 ^ 32 }
         ensures ok { OnOk result (self.new ≡ with_last wire pins.now self.old) }
@@ -131,7 +124,13 @@ impl Layout {
     }
 
     // A wire is spread over the next DRO, at a stage, and pins. The wire that the DRO makes.
-    fn dro(&mut self, alloc: Global, stage: u32, wire: u32, pins: &[u32]) -> Result<u32, NoMemory>
+    fn lay_dro(
+        &mut self,
+        alloc: Global,
+        stage: u32,
+        wire: u32,
+        pins: &[u32],
+    ) -> Result<u32, NoMemory>
         requires below { All (λ pin. pin < length self.old.taken) pins.now }
         requires room { (with_dro stage wire pins.now self.old).next + 2 < 2 ^ 32 }
         ensures ok { OnOk result (self.new ≡ with_dro stage wire pins.now self.old) }
@@ -145,7 +144,7 @@ impl Layout {
     }
 
     /// The chain of a driver from its wire and stage, each DRO n stages behind the last.
-    pub(crate) fn chain(
+    pub(crate) fn lay_chain(
         &mut self,
         alloc: Global,
         n: u32,
@@ -162,9 +161,9 @@ impl Layout {
         for (k, pins) in taps.iter().enumerate() {
             if k + 1 < taps.len() {
                 stage += n;
-                wire = self.dro(alloc, stage, wire, pins.as_slice())?;
+                wire = self.lay_dro(alloc, stage, wire, pins.as_slice())?;
             } else {
-                self.last(alloc, wire, pins.as_slice())?;
+                self.lay_last(alloc, wire, pins.as_slice())?;
             }
         }
         Ok(())

@@ -5,22 +5,28 @@
 //! gates: each driver's wire is spread over its targets, and so is the wire of each DRO of its chain, the DRO that follows
 //! in the chain first and then the pins in order. Wires are numbered as they are made, from 0.
 //!
-//! Promised: `split` answers `elements_of`, which is that netlist with all its numbers; its only refusal is `NoMemory`, and
-//! that comes only from a request for memory: the numbers of wires always fit.
-//! `can_split` tells exactly where it may be called: the gates are well formed and have fewer than 2 ^ 31 pins, each stage
-//! fits 32 bits, and so do the numbers of wires, by a count of DROs, pins and gates (`FewWires`). Where `chains` answers for
-//! balanced epochs, that always holds (`chains_can_be_split`). The time is linear in the wires.
-//! `chains_are_valid`: where `chains` answers for balanced epochs, that netlist is valid, so each wire is made once and used
-//! once, and each is read 1 to n ticks after it is made (`layout_is_valid`, `chains_keep_time`).
-//! `dros_are_the_count`: it has as many DROs as the DRO count of the epochs.
-//! `chains_unfold`: it unfolds to the gates, the phases and the epochs that the chains were made for.
-//! The lengths of chains are not read, since a chain is as long as the largest need of its pins.
+//! Promised: `split` answers `elements_of`, which is that netlist with all its numbers. Its only refusal is `NoMemory`, and
+//! no other is needed: the numbers of wires always fit. The netlist is valid where the chains keep time, so each wire is
+//! made once and used once, and each is read 1 to n ticks after it is made (`valid`, and `layout_is_valid` as a law).
+//! `can_split` tells exactly which chains it takes: the gates are well formed and have fewer than 2 ^ 31 pins, each stage
+//! fits 32 bits, and so do the numbers of wires, by a count of DROs, pins and gates (`FewWires`).
+//!
+//! *Chains that mean a netlist* are what `chains` answers where `HasChains` holds: each gate has a use, there are 1 to 16
+//! phases and each gate's is below their number, the epochs are balanced, and the latency is 1 or more, and 1 where there
+//! is no pin. They can be split (`chains_can_be_split`) and keep time (`chains_keep_time`), so the netlist is valid
+//! (`chains_are_valid`). It has as many DROs as the chain lengths sum up to, which is the DRO count of the epochs
+//! (`dros_are_the_count`), and it unfolds to the gates, the phases and the epochs that the chains were made for
+//! (`unfolds`, and `chains_unfold` as a law).
+//!
+//! Not promised: that `NoMemory` comes only where memory is short; how long `split` takes, and how much memory.
+//! It doesn't read the lengths of chains, since a chain is as long as the largest need of its pins.
 //!
 //! Read `specs/Spread.antt` for the tree of splitters, `specs/Taps.antt` for who takes from which DRO, and
 //! `specs/Elements.antt` from `elements_of` down. `proofs/Examples.antt` evaluates the definitions on netlists made by
-//! hand. Central proofs: a tree doesn't depend on the bound of its depth (`proofs/Trees.antt`), the table of taps gathers
-//! the pins of each driver and need in order (`proofs/TapLemmas.antt`), and the wires are no more than their count
-//! (`proofs/LayoutCount.antt`).
+//! hand. Central proofs: validity by a frontier of waiting wires (`proofs/WiredWhole.antt`), and unfolding by the same
+//! induction with drivers (`proofs/UnfoldsWhole.antt`). Below them a tree doesn't depend on the bound of its depth
+//! (`proofs/Trees.antt`), the table of taps gathers the pins of each driver and need in order (`proofs/TapLemmas.antt`),
+//! and the wires are no more than their count (`proofs/LayoutCount.antt`).
 #![tactic(auto)]
 
 mod build;

@@ -3,7 +3,7 @@
 ghost use Rattle.std.specs.Prelude.{◌≡◌, ◌++◌, ◌+◌, ◌^◌, ◌<◌, [], All, IfOk, OnOk, length, replicate, slice_index};
 ghost use Rattle.std.specs.List.{flat_map};
 ghost use Rattle.gate_net.specs.Net.{IsThere, end_drivers, pin_drivers};
-ghost use Rattle.splitters.specs.Taps.{HasTaps, slot};
+ghost use Rattle.splitters.specs.Table.{HasTaps, slot};
 
 use crate::taps::Taps;
 use gate_net::{Driver, End, GateNet, GateRow};

@@ -1,7 +1,7 @@
 //! The taps of one driver.
 
 ghost use Rattle.std.specs.Prelude.{◌≡◌, ◌↔◌, IsTrue, ◌+◌, ◌++◌, ◌∷◌, ◌==◌, [], ℕ, cond, max, length, OnOk, slice_index_or};
-ghost use Rattle.splitters.specs.Taps.{tap_at};
+ghost use Rattle.splitters.specs.Table.{tap_at};
 
 use net_base::{List, NoMemory};
 use std::alloc::Global;

@@ -1,4 +1,6 @@
-//! A large netlist: it is laid out, found valid, and unfolds to the gates that it was made of.
+//! A large netlist is laid out, found valid, and unfolds to the gates that it was made of. Small ones are in `by_hand`.
+
+mod by_hand;
 
 ghost use Rattle.std.specs.Prelude.{◌≡◌, [], IfOk, length};
 ghost use Rattle.gate_net.specs.Net.{IsGateNet, IsThere};
@@ -60,17 +62,18 @@ fn earliest(alloc: Global, levels: &List<u32>) -> Result<Epochs, NoMemory> {
     Ok(Epochs { gates, sink: SINK })
 }
 
-fn names(alloc: Global) -> Result<Names, NoMemory> {
+// A model with one input and so many outputs.
+fn names(alloc: Global, outputs: u32) -> Result<Names, NoMemory> {
     let mut inputs = List::new(alloc);
     inputs.push(Name::of(alloc, b"a")?)?;
-    let mut outputs = List::new(alloc);
-    for _ in 0..READS {
-        outputs.push(Name::of(alloc, b"y")?)?;
+    let mut read = List::new(alloc);
+    for _ in 0..outputs {
+        read.push(Name::of(alloc, b"f")?)?;
     }
     Ok(Names {
-        model: Name::of(alloc, b"ladder")?,
+        model: Name::of(alloc, b"m")?,
         inputs,
-        outputs,
+        outputs: read,
     })
 }
 
@@ -82,14 +85,16 @@ fn total(lengths: &[u32]) -> u64 {
     sum
 }
 
-// Gates laid out, if they can be.
-fn laid_out(alloc: Global, chained: Chained) -> Result<PulseNet, Fail>
+// Gates laid out, if they can be and the names fit.
+fn laid_out(alloc: Global, chained: Chained, names: Names) -> Result<PulseNet, Fail>
     requires { IsGateNet chained.gates }
 {
-    if !can_split(alloc, &chained)? {
+    let named = names.inputs.len() == chained.gates.inputs as usize
+        && names.outputs.len() == chained.gates.outputs.len();
+    if !named || !can_split(alloc, &chained)? {
         return Err("can't be split".into());
     }
-    Ok(split(alloc, chained, names(alloc)?)?)
+    Ok(split(alloc, chained, names)?)
 }
 
 // The gates of a netlist, if it is valid and not too long.
@@ -116,7 +121,7 @@ fn two_hundred_thousand_elements_are_soon_laid_out_and_unfolded(
     assert!(rt; can_chain(&gates, &phases, PHASES, &epochs));
     let chained = chains(alloc, gates, &phases, PHASES, &epochs)?;
     let dros = total(chained.lengths.as_slice());
-    let net = laid_out(alloc, chained)?;
+    let net = laid_out(alloc, chained, names(alloc, READS)?)?;
     assert!(rt; net.elements.len() >= 200_000);
     let unfolded = unfold_valid(alloc, &net)?;
     let gates = read_ladder(alloc)?;

@@ -4,16 +4,16 @@ use Rattle.splitters.specs.Taps.{tap_count, driver_stage}
 use Rattle.splitters.proofs.TapLemmas.{AreBelow, taps-below, length-taps_at, chain-fits}
 use Rattle.splitters.proofs.drivers.lay_chain.Goals as goal
 
-pub chain-requires-clause-below : goal.chain-requires-clause-below
-chain-requires-clause-below c =
+pub lay_chain-requires-clause-below : goal.lay_chain-requires-clause-below
+lay_chain-requires-clause-below c =
     let net = c.args.chained.now.gates in
     subst (λ (taps : List (List ℕ)). AreBelow (length c.args.layout.now.taken) taps) (sym c.as_slice.ensures)
     (subst (λ (n : ℕ). AreBelow n c.index-table-slot.result) (sym c.requires.pins)
     (taps-below net.inputs (length net.gates) c.args.chained.now.needs (pin_drivers net) c.args.table.now c.args.driver c.slot.result c.index-table-slot.result
     c.requires.tapped.taps c.requires.tapped.each c.requires.there c.slot.ensures c.index-table-slot.is))
 
-pub chain-requires-clause-fits : goal.chain-requires-clause-fits
-chain-requires-clause-fits c =
+pub lay_chain-requires-clause-fits : goal.lay_chain-requires-clause-fits
+lay_chain-requires-clause-fits c =
     let net = c.args.chained.now.gates in
     let many : length c.as_slice.result.now ≡ tap_count c.args.chained.now.needs c.args.driver 0 (pin_drivers net) =
     ap length c.as_slice.ensures

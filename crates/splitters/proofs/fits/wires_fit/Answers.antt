@@ -1,7 +1,8 @@
 use Rattle.std.proofs.Common.{◌≡◌, ℕ, List, All, length, sum, ap, sym, subst, arith}
 use Rattle.gate_net.specs.declared.row.Driver.{Driver}
 use Rattle.gate_net.specs.Net.{IsThere, pin_drivers}
-use Rattle.splitters.specs.Taps.{chain_dros, HasLengths}
+use Rattle.splitters.specs.Taps.{chain_dros}
+use Rattle.splitters.specs.Table.{HasLengths}
 use Rattle.splitters.proofs.PinLemmas.{pin_drivers-there}
 use Rattle.splitters.proofs.ChainSums.{lengths-sum}
 use Rattle.splitters.proofs.fits.wires_fit.Goals as goal

@@ -1,5 +1,5 @@
 use Rattle.std.proofs.Common.{◌≡◌, ◌≤◌, ◌+◌, ◌-◌, ℕ, max, length}
-use Rattle.splitters.specs.Taps.{tap_at}
+use Rattle.splitters.specs.Table.{tap_at}
 use Rattle.splitters.proofs.taps.grow.Given as goal
 
 abbrev pub invariant-loop-alloc : goal.invariant-loop-alloc

@@ -1,6 +1,6 @@
 use Rattle.std.proofs.Common.{◌≡◌, ◌≤◌, ◌+◌, ◌*◌, length, drop}
 use Rattle.splitters.specs.Elements.{with_chain}
-use Rattle.splitters.proofs.layout.Layout.chain.Given as goal
+use Rattle.splitters.proofs.layout.Layout.lay_chain.Given as goal
 
 abbrev pub invariant-loop-k : goal.invariant-loop-k
 invariant-loop-k l = record {

@@ -1,10 +1,10 @@
 use Rattle.std.proofs.Common.{◌^◌, ◌∙◌, length, ap, arith}
 use Rattle.splitters.specs.Elements.{with_chain}
 use Rattle.splitters.proofs.LayoutGrows.{dro-room}
-use Rattle.splitters.proofs.layout.Layout.chain.Goals as goal
+use Rattle.splitters.proofs.layout.Layout.lay_chain.Goals as goal
 
-pub dro-requires-clause-room : goal.dro-requires-clause-room
-dro-requires-clause-room c =
+pub lay_dro-requires-clause-room : goal.lay_dro-requires-clause-room
+lay_dro-requires-clause-room c =
     let whole = with_chain c.args.n c.args.stage c.args.wire c.args.taps.now c.args.self.now in
     let room = dro-room c.args.n c.loop-k.stage c.loop-k.wire c.args.taps.now c.loop-k.self whole c.loop-k.k (2 ^ 32) c.index-taps-k.result
     (omega (arith, c.if-k-taps.true)) c.loop-k.invariant.chain c.requires.room in
