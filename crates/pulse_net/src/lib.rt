@@ -1,19 +1,20 @@
 //! Netlists of pulse elements: when they are valid, the pulses that run on them, and the gates that they unfold to.
 //!
-//! A netlist has inputs, elements in order and outputs, joined by wires that go by number. An element is a clocked cell
-//! at a stage, the tick of its first clock, or a splitter, which has no clock. With n phases an epoch has n ticks, and a
-//! cell has its clock at the ticks that are its stage modulo n. It then looks at what pulsed on its pins in the n ticks
-//! before. So a wire can be read 1 to n ticks after it was made, and each wire can be read once: these are the rules of
-//! a valid netlist.
+//! A netlist has inputs, elements in order and outputs, joined by wires that go by number. An element is a clocked cell at
+//! a stage, the tick of its first clock, or a splitter, which has no clock. With n phases an epoch has n ticks, and a cell
+//! has its clock at the ticks that are its stage modulo n. It then looks at what pulsed on its pins in the n ticks before.
+//! So a wire can be read 1 to n ticks after it was made, and each wire can be read once: these are the rules of a valid
+//! netlist.
 //!
-//! Promised: `valid` answers `Ok` exactly where no rule is broken, and else names the first broken one by place and cause.
-//! `unbroken_is_wired` says the rules once more, of the netlist as it stands, and `least_unused_is_named` which wire is
-//! named at the close. `pulses_are_row_values` and `reads_are_row_values` say that in a valid netlist what pulses, and
-//! what is read at the outputs, is what the cells compute of each row of inputs, for every number of phases and every
-//! list of rows. `unfold` answers the gates of a valid netlist, each pin traced back through DROs and splitters (`value`);
-//! they are a gate netlist (`net`), each gate's wire pulses as the gate is valued, and each output is read so (`pulses`,
-//! and the law `pulses_are_gate_values`). `stages_follow_depths` says how far behind its driver a wire can stand: n ticks
-//! for each DRO that it passed, for n phases.
+//! Promised: where `valid` answers `Ok` the netlist is valid (`valid`), and where it names a place and a cause, that rule
+//! is broken, and none before (`broken`); its only other answer is `NoMemory`. `unbroken_is_wired` says the rules once
+//! more, of the netlist as it stands, and `least_unused_is_named` which wire is named at the close.
+//! `pulses_are_row_values` and `reads_are_row_values` say that in a valid netlist what pulses, and what is read at the
+//! outputs, is what the cells compute of each row of inputs, for every number of phases and every list of rows. `unfold`
+//! answers the gates of a valid netlist, each pin traced back through DROs and splitters (`value`); they are a gate
+//! netlist (`net`), each gate's wire pulses as the gate is valued, and each output is read so (`pulses`, and the law
+//! `pulses_are_gate_values`). `stages_follow_depths` says how far behind its driver a wire can stand: n ticks for each DRO
+//! that it passed, for n phases.
 //! Only `valid` and `unfold` take memory.
 //! Not promised: that a chip behaves so. There are no picoseconds, bias currents or clock skew in this model.
 //!

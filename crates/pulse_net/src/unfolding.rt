@@ -27,7 +27,8 @@ pub struct Unfolded {
     pub dros: u64,
 }
 
-/// The gates of a valid netlist, with their phases and epochs, and the number of its DROs.
+/// The gates of a netlist, with their phases and epochs, and the number of its DROs. The netlist is valid, with fewer than
+/// 2^31 inputs, elements and outputs, so that a `u32` numbers the drivers. `NoMemory` is the only error.
 pub fn unfold(alloc: Global, net: &PulseNet) -> Result<Unfolded, NoMemory>
     requires valid { IsValid net.now }
     requires few_inputs { length net.now.inputs < 2 ^ 31 }

@@ -1,9 +1,9 @@
 //! Whether a netlist is valid, and else the first rule that it breaks.
 
-ghost use Rattle.std.specs.Prelude.{◌≡◌, ◌<◌, ◌^◌, ◌↔◌, ◌+◌, ◌*◌, ◌||◌, ◌==◌, Ok, IsOk, MatchResult, length, true};
+ghost use Rattle.std.specs.Prelude.{◌≡◌, ◌<◌, ◌^◌, ◌↔◌, ◌+◌, ◌*◌, ◌||◌, ◌==◌, Ok, IsOk, IfOk, IfErr, MatchResult, length, true};
 ghost use Rattle.std.specs.List.{list_any};
 ghost use Rattle.pulse_net.specs.Formed.{IsFormed};
-ghost use Rattle.pulse_net.specs.Validity.{at, wiring_of, wire_inputs, wire_elements, wire_outputs, check_latency, close_wires, has_wire};
+ghost use Rattle.pulse_net.specs.Validity.{IsValid, at, wiring_of, wire_inputs, wire_elements, wire_outputs, check_latency, close_wires, has_wire};
 ghost use Rattle.pulse_net.specs.Refusals.{Fails, ObeysRules, placed};
 
 use crate::fault::{Invalid, Place, Stop, ValidFault, Wrong};
@@ -11,16 +11,16 @@ use crate::net::{Element, Outlet, PulseNet};
 use crate::wires::Wires;
 use std::alloc::Global;
 
-/// Finds a netlist valid, or names the first rule that it breaks: in inputs, elements and outputs in order, then in the
-/// latency, and then at the close.
+/// Finds a formed netlist valid, or names the first rule that it breaks: in inputs, elements and outputs in order, then in
+/// the latency, and then at the close. There are fewer than 2^31 of each, since a place is a `u32`. The only other error
+/// is `NoMemory`, which says nothing of the netlist.
 pub fn valid(alloc: Global, net: &PulseNet) -> Result<(), ValidFault>
     requires formed { IsFormed net.now }
     requires few_inputs { length net.now.inputs < 2 ^ 31 }
     requires few_elements { length net.now.elements < 2 ^ 31 }
     requires few_outputs { length net.now.outputs < 2 ^ 31 }
-    ensures { MatchResult result
-        (λ _. IsOk (wiring_of net.now))
-        (λ fault. Fails fault (wiring_of net.now)) }
+    ensures valid { IfOk result (λ _. IsValid net.now) }
+    ensures broken { IfErr result (λ fault. Fails fault (wiring_of net.now)) }
 {
     let mut wires = Wires::new(alloc);
     pass_inputs(&mut wires, net.inputs.as_slice())?;
