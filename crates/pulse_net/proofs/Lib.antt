@@ -9,6 +9,7 @@ mod Carried
 pub mod Law
 mod Tables
 pub mod Driven
+pub mod Dros
 mod Agree
 mod Traced
 mod Unfolds

@@ -7,5 +7,6 @@ pub mod Wired
 pub mod Laws
 pub mod Refusals
 pub mod Unfolding
+pub mod Dros
 pub mod Depths
 pub mod GatePulses

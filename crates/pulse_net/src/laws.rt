@@ -1,6 +1,7 @@
 //! What the rules and the pulses mean, as laws on every netlist. A law takes nothing and does nothing: its clause is the law.
 
 ghost use Rattle.pulse_net.specs.Depths.{StagesFollowDepths};
+ghost use Rattle.pulse_net.specs.Dros.{UnfoldsItsDros};
 ghost use Rattle.pulse_net.specs.GatePulses.{UnfoldedPulses};
 ghost use Rattle.pulse_net.specs.Laws.{NamesTheLeast, PulsesAreRowValues, ReadsAreRowValues, UnbrokenIsWired};
 
@@ -31,6 +32,11 @@ pub fn reads_are_row_values()
 /// is the value that the gates give it over row c. It is the clause `pulses` of `unfold`, without a call.
 pub fn pulses_are_gate_values()
     ensures { UnfoldedPulses }
+{}
+
+/// A netlist, valid or not, unfolds to as many DROs as there are among its elements.
+pub fn unfolds_its_dros()
+    ensures { UnfoldsItsDros }
 {}
 
 /// In a valid netlist with n phases a wire that passed k DROs behind its driver has its driver's stage, or a later one by
