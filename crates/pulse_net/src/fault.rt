@@ -2,8 +2,9 @@
 
 ghost use Rattle.std.specs.Prelude.{◌≡◌};
 ghost use Rattle.pulse_net.specs.declared.fault.Stop.TheVariants.{Wrong, NoMemory};
+ghost use Rattle.pulse_net.specs.declared.fault.ValidFault.TheVariants.{NoMemory as NoRoom};
 
-use std::alloc::AllocFailed;
+use std::alloc::{AllocError, AllocFailed};
 
 /// Where a netlist breaks a rule. Places are counted from 0.
 #[derive(Clone, Copy, Debug, PartialEq, Eq)]
@@ -53,6 +54,14 @@ pub enum ValidFault {
     Invalid(Invalid),
     /// Want of memory, which says nothing of the netlist.
     NoMemory,
+}
+
+impl From<AllocError> for ValidFault {
+    ghost from_gives = { λ _ fault. fault ≡ NoRoom };
+
+    fn from(_failed: AllocError) -> ValidFault {
+        ValidFault::NoMemory
+    }
 }
 
 /// Why a step of the rules stops, wherever it stands.

@@ -1,5 +1,7 @@
 //! A netlist: inputs, elements in order, outputs, all joined by numbered wires.
 
+ghost use Rattle.std.specs.Prelude.{◌≡◌, ◌<◌, ◌+◌, ◌*◌, ◌^◌, length};
+
 use cell_lib::Cell;
 use net_base::{List, Name};
 
@@ -68,4 +70,15 @@ pub struct PulseNet {
     pub elements: List<Element>,
     /// What stands at each output.
     pub outputs: List<Outlet>,
+}
+
+impl PulseNet {
+    /// The wires that are made at most: one by each input and each cell, and two by each splitter.
+    pub(crate) fn most_wires(&self) -> usize
+        requires few_inputs { length self.now.inputs < 2 ^ 31 }
+        requires few_elements { length self.now.elements < 2 ^ 31 }
+        ensures { result ≡ length self.now.inputs + 2 * length self.now.elements }
+    {
+        self.inputs.len() + 2 * self.elements.len()
+    }
 }

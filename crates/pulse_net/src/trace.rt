@@ -32,16 +32,16 @@ impl Model for Trace {
 }
 
 impl Trace {
-    /// Nothing traced.
-    pub(crate) fn new(alloc: Global) -> Trace
-        ensures { result ≡ nothing_unfolded }
+    /// Nothing traced, and room for so many wires.
+    pub(crate) fn with_room(alloc: Global, most: usize) -> Result<Trace, NoMemory>
+        ensures { IfOk result (λ trace. trace ≡ nothing_unfolded) }
     {
-        Trace {
-            wires: IndexMap::new(alloc),
+        Ok(Trace {
+            wires: IndexMap::with_capacity(alloc, most)?,
             gates: Gates::new(alloc),
             stages: List::new(alloc),
             dros: List::new(alloc),
-        }
+        })
     }
 
     /// Makes a wire with its driver; a wire is made once, so the first time counts.
@@ -80,20 +80,27 @@ impl Trace {
         self.make(out, Driver::Gate(place))
     }
 
-    /// Traces a clocked element, whose pins have these drivers.
+    /// Traces a clocked element. Only a gate keeps its drivers, so a DRO takes no memory for a list of them.
     fn pass_cell(
         &mut self,
+        alloc: Global,
         cell: Cell,
         stage: u32,
         out: u32,
-        pins: List<Driver>,
+        pins: &[u32],
     ) -> Result<(), NoMemory>
         requires { length self.old.gates < 2 ^ 31 }
-        ensures { OnOk result (self.new ≡ unfold_cell cell stage out pins self.old) }
+        ensures { OnOk result (self.new ≡ unfold_cell cell stage out (map (driver_of self.old.wires) pins.now) self.old) }
     {
         match cell {
-            Cell::Dro => self.pass_dro(out, first_of(pins.as_slice())),
-            Cell::Not | Cell::And | Cell::Or | Cell::Xor => self.add_gate(cell, stage, out, pins),
+            Cell::Dro => {
+                let driver = dro_driver(&self.wires, pins);
+                self.pass_dro(out, driver)
+            }
+            Cell::Not | Cell::And | Cell::Or | Cell::Xor => {
+                let drivers = drivers_of(alloc, &self.wires, pins)?;
+                self.add_gate(cell, stage, out, drivers)
+            }
         }
     }
 
@@ -108,10 +115,7 @@ impl Trace {
                 stage,
                 pins,
                 out,
-            } => {
-                let drivers = drivers_of(alloc, &self.wires, pins.as_slice())?;
-                self.pass_cell(*cell, *stage, *out, drivers)
-            }
+            } => self.pass_cell(alloc, *cell, *stage, *out, pins.as_slice()),
             Element::Split { from, left, right } => {
                 let driver = driver_of(&self.wires, *from);
                 self.make(*left, driver)?;
@@ -151,11 +155,11 @@ impl Trace {
 }
 
 /// The driver of a DRO: that of its pin.
-fn first_of(pins: &[Driver]) -> Driver
-    ensures { result ≡ dro_driver pins.now }
+fn dro_driver(wires: &IndexMap<u32, Driver>, pins: &[u32]) -> Driver
+    ensures { result ≡ dro_driver (map (driver_of wires.now.entries) pins.now) }
 {
     match pins {
-        [first, ..] => *first,
+        [pin, ..] => driver_of(wires, *pin),
         [] => Driver::Input(0),
     }
 }

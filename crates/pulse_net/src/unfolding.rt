@@ -48,7 +48,7 @@ fn trace_of(alloc: Global, net: &PulseNet) -> Result<Trace, NoMemory>
     requires few_elements { length net.now.elements < 2 ^ 31 }
     ensures { IfOk result (λ trace. trace ≡ unfolding_of net.now) }
 {
-    let mut trace = Trace::new(alloc);
+    let mut trace = Trace::with_room(alloc, net.most_wires())?;
     pass_inputs(&mut trace, net.inputs.as_slice())?;
     pass_elements(alloc, &mut trace, net.elements.as_slice())?;
     Ok(trace)

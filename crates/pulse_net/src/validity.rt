@@ -22,7 +22,7 @@ pub fn valid(alloc: Global, net: &PulseNet) -> Result<(), ValidFault>
     ensures valid { IfOk result (λ _. IsValid net.now) }
     ensures broken { IfErr result (λ fault. Fails fault (wiring_of net.now)) }
 {
-    let mut wires = Wires::new(alloc);
+    let mut wires = Wires::with_room(alloc, net.most_wires())?;
     pass_inputs(&mut wires, net.inputs.as_slice())?;
     pass_elements(&mut wires, net.phases, net.elements.as_slice())?;
     pass_outputs(&mut wires, net.phases, net.latency, net.outputs.as_slice())?;

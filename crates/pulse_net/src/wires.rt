@@ -1,6 +1,6 @@
 //! The wires that a netlist made and used so far: the rules of one wire, and of the wires of one element.
 
-ghost use Rattle.std.specs.Prelude.{◌≡◌, ◌<◌, ◌^◌, false, OnOk, None};
+ghost use Rattle.std.specs.Prelude.{◌≡◌, ◌<◌, ◌^◌, false, OnOk, IfOk, None};
 ghost use Rattle.std.specs.Map.{keys_of};
 ghost use Rattle.pulse_net.specs.Validity.{Wiring, unwired, is_among, make_wire, source_stage, with_used, use_wire, use_pins, wire_element, wire_output, is_gap, least_unused, with_unused, lesser};
 ghost use Rattle.pulse_net.specs.Refusals.{ObeysRule};
@@ -8,6 +8,7 @@ ghost use Rattle.pulse_net.specs.Refusals.{ObeysRule};
 use crate::fault::{Stop, Wrong};
 use crate::net::{Element, Outlet};
 use indexmap::{IndexMap, IndexSet};
+use net_base::NoMemory;
 use std::alloc::{AllocFailed, Global};
 use std::marker::Model;
 
@@ -27,14 +28,13 @@ impl Model for Wires {
 }
 
 impl Wires {
-    /// No wires.
-    pub(crate) fn new(alloc: Global) -> Wires
-        ensures { result ≡ unwired }
+    /// No wires, and room for so many.
+    pub(crate) fn with_room(alloc: Global, most: usize) -> Result<Wires, NoMemory>
+        ensures { IfOk result (λ wires. wires ≡ unwired) }
     {
-        Wires {
-            made: IndexMap::new(alloc),
-            used: IndexSet::new(alloc),
-        }
+        let made = IndexMap::with_capacity(alloc, most)?;
+        let used = IndexSet::with_capacity(alloc, most)?;
+        Ok(Wires { made, used })
     }
 
     /// Makes a wire at a stage.
