@@ -11,7 +11,8 @@ use Rattle.pulse_net.specs.declared.net.Element.TheVariants.{Clocked, Split}
 use Rattle.pulse_net.specs.Wires.{Wires, found}
 use Rattle.pulse_net.specs.Unfolding.{Unfolding, make_driven, nothing_unfolded, unfold_cell, unfold_element, unfold_elements, unfold_inputs}
 
-entry-new : {A : Type 0} (wires : Wires A) (wire : ℕ) (a : A) → is_some (found wires wire) ≡ false → insert_entry nat_eq wires wire a ≡ wires ++ (wire, a) ∷ []
+-- what is put in under a wire that isn't in the table goes to its end
+pub entry-new : {A : Type 0} (wires : Wires A) (wire : ℕ) (a : A) → is_some (found wires wire) ≡ false → insert_entry nat_eq wires wire a ≡ wires ++ (wire, a) ∷ []
 entry-new [] wire a h = refl
 entry-new (one ∷ wires) wire a h = by (nat_eq wire one.0) (λ e. entry-new wires wire a e) h
   where
@@ -36,9 +37,6 @@ gates-cell Xor stage out pins so = omega (arith, length_push so.gates (record { 
 pub gates-element : (element : Element) (so : Unfolding) → length (unfold_element element so).gates ≤ length so.gates + 1
 gates-element (Clocked cell stage pins out) so = gates-cell cell stage out _ so
 gates-element (Split from left right) so = omega arith
-
-pub gates-element_is : (element : Element) (so new : Unfolding) → new ≡ unfold_element element so → length new.gates ≤ length so.gates + 1
-gates-element_is element so new e = omega (arith, gates-element element so, ap (λ (u : Unfolding). length u.gates) e)
 
 -- elements add as many gates as there are elements at most
 pub gates-elements : (elements : List Element) (so : Unfolding) → length (unfold_elements elements so).gates ≤ length so.gates + length elements

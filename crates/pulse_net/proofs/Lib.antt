@@ -7,11 +7,11 @@ pub mod Unbroken
 mod Least
 mod Carried
 pub mod Law
-mod Tables
 pub mod Driven
+mod Tables
 pub mod Dros
 mod Agree
-mod Traced
+pub mod Traced
 mod Unfolds
 pub mod GateLaw
 mod Depths

@@ -1,28 +1,21 @@
 -- A wire that is new goes to the end of a table.
-use Rattle.std.proofs.Common.{◌≡◌, ℕ, Bool, true, false, cond, nat_eq, List, [], ◌∷◌, ◌++◌, refl, sym, ap, ◌∙◌}
+use Rattle.std.proofs.Common.{◌≡◌, ℕ, false, cond, nat_eq, List, [], ◌∷◌, ◌++◌, refl, sym, ap, ◌∙◌}
 use Rattle.std.specs.Prelude.{Option, Some, None, Ok, is_some}
 use Rattle.indexmap.specs.IndexMap.{insert_entry}
 use Rattle.indexmap.specs.IndexSet.{insert_key}
 use Rattle.pulse_net.specs.Wires.{Wires, found}
 use Rattle.pulse_net.specs.Validity.{Wiring, is_among, made_once, make_wire, with_used}
+use Rattle.pulse_net.proofs.Driven.{entry-new}
 
 absent : {A : Type 0} (o : Option A) → is_some o ≡ false → o ≡ None
 absent None h = refl
 absent (Some a) h = cc
 
-entry-new : (made : Wires ℕ) (wire stage : ℕ) → found made wire ≡ None → insert_entry nat_eq made wire stage ≡ made ++ (wire, stage) ∷ []
-entry-new [] wire stage h = refl
-entry-new (one ∷ made) wire stage h = by (nat_eq wire one.0) (λ e. entry-new made wire stage e) h
-  where
-    by : (here : Bool) → (found made wire ≡ None → insert_entry nat_eq made wire stage ≡ made ++ (wire, stage) ∷ []) → cond here (Some one.1) (found made wire) ≡ None → cond here ((one.0, stage) ∷ made) (one ∷ insert_entry nat_eq made wire stage) ≡ one ∷ (made ++ (wire, stage) ∷ [])
-    by true rest e = cc
-    by false rest e = ap (λ l. one ∷ l) (rest e)
-
 -- a wire that isn't in the table is made by putting it there
 pub make_wire-inserted : (wiring : Wiring) (wire stage : ℕ) (entries : Wires ℕ) → is_some (found wiring.made wire) ≡ false → entries ≡ insert_entry nat_eq wiring.made wire stage → make_wire wire stage wiring ≡ Ok (record { made = entries; used = wiring.used })
 make_wire-inserted wiring wire stage entries new put =
     let none = absent (found wiring.made wire) new in
-    let there : entries ≡ wiring.made ++ (wire, stage) ∷ [] = put ∙ entry-new wiring.made wire stage none in
+    let there : entries ≡ wiring.made ++ (wire, stage) ∷ [] = put ∙ entry-new wiring.made wire stage new in
     ap (made_once wiring wire stage) none ∙ ap (λ m. Ok (record { made = m; used = wiring.used })) (sym there)
 
 -- a wire that isn't in the set is used by putting it there

@@ -13,7 +13,7 @@ use Rattle.pulse_net.specs.Unfolding.{Unfolding}
 use Rattle.pulse_net.proofs.Agree.{values_by, Agree, value-more, value-new}
 
 -- what was found stays found
-found-append : {A : Type 0} (a b : Wires A) (wire : ℕ) (x : A) → found a wire ≡ Some x → found (a ++ b) wire ≡ Some x
+pub found-append : {A : Type 0} (a b : Wires A) (wire : ℕ) (x : A) → found a wire ≡ Some x → found (a ++ b) wire ≡ Some x
 found-append [] b wire x e = cc
 found-append (one ∷ a) b wire x e = by (nat_eq wire one.0) (λ e. found-append a b wire x e) e
   where
