@@ -1,15 +1,19 @@
--- Stages, depths and drivers of the same wires: each stands at its driver's stage or behind it, by n ticks a DRO at most.
-use Rattle.std.proofs.Common.{◌≡◌, ◌<◌, ◌≤◌, ◌+◌, ◌*◌, ℕ, Bool, true, false, nat_eq, List, [], ◌∷◌, ◌++◌, length, map, get_or, refl, sym, ap, subst, arith, append_assoc}
+-- Stages, depths and drivers of the same wires: each stands at its driver's stage or behind it, by n ticks a DRO at most,
+-- and it is no deeper than its driver has DROs.
+use Rattle.std.proofs.Common.{◌≡◌, ◌<◌, ◌≤◌, ◌+◌, ◌*◌, ℕ, Bool, true, false, nat_eq, List, [], ◌∷◌, ◌++◌, cond, length, map, get_or, refl, sym, ap, subst, ◌∙◌, arith, append_assoc}
 use Rattle.std.specs.Prelude.{Option, Some, None, unwrap_or, ◌==◌, if◌then◌else◌, is_some, flat_map, option_to_list, ⊤}
 use Rattle.std.specs.List.{IsDistinct, AllByRecursion}
 use Rattle.std.specs.Map.{keys_of}
 use Rattle.std.proofs.lemmas.List.{append-nil, length_push, get_or_append_left, get_or_push}
 use Rattle.std.proofs.lemmas.List.Elements.{recursion_from_All}
+use Rattle.std.proofs.lemmas.List.Sums.{sum_by_push}
 use Rattle.cell_lib.specs.declared.cell.Cell.{Cell}
 use Rattle.cell_lib.specs.declared.cell.Cell.TheVariants.{Dro, Not, And, Or, Xor}
 use Rattle.gate_net.specs.declared.row.Driver.{Driver}
 use Rattle.gate_net.specs.declared.row.Driver.TheVariants.{Input, Gate}
 use Rattle.gate_net.specs.declared.row.GateRow.{GateRow}
+use Rattle.gate_net.specs.Rows.{same_driver}
+use Rattle.gate_net.proofs.RowLemmas.{same_driver-decides}
 use Rattle.pulse_net.specs.declared.net.Element.{Element}
 use Rattle.pulse_net.specs.declared.net.Element.TheVariants.{Clocked, Split}
 use Rattle.pulse_net.specs.declared.net.PulseNet.{PulseNet}
@@ -18,7 +22,7 @@ use Rattle.pulse_net.specs.Wires.{Wires, found, carried, input_wires, element_wi
 use Rattle.pulse_net.specs.Validity.{IsValid}
 use Rattle.pulse_net.specs.Wired.{element_makes, ArriveInTime, ElementInTime, ElementsInTime}
 use Rattle.pulse_net.specs.Unfolding.{Unfolding, driver_of, with_wire, make_driven, add_gate, pass_dro, dro_driver, nothing_unfolded, unfold_element, unfold_elements, unfold_inputs, unfolding_of}
-use Rattle.pulse_net.specs.Depths.{input_depth, cell_depth, depths_of, driver_stage, StagesFollowDepths}
+use Rattle.pulse_net.specs.Depths.{input_depth, cell_depth, depths_of, driver_stage, dros_behind, StagesFollowDepths, DrosFollowDepths}
 use Rattle.pulse_net.proofs.Once.{new_wire, behind_wire, behind_element, keys-inputs}
 use Rattle.pulse_net.proofs.Unbroken.{wired}
 
@@ -27,97 +31,134 @@ abbrev HasStage : List ℕ → Driver → Type 0
 HasStage stages (Input i) = ⊤
 HasStage stages (Gate k) = k < length stages
 
--- with n phases a wire stands at its driver's stage or behind it, by n ticks a DRO at most
-record IsBehind (n : ℕ) (gates : List ℕ) (stage depth : ℕ) (driver : Driver) : Type 0 where
+-- with n phases a wire stands at its driver's stage or behind it, by n ticks a DRO at most, and its driver has these DROs
+record IsBehind (n : ℕ) (gates : List ℕ) (dros : List Driver) (stage depth : ℕ) (driver : Driver) : Type 0 where
   pub there : HasStage gates driver
   pub after : driver_stage gates driver ≤ stage
   pub within : stage ≤ driver_stage gates driver + n * depth
+  pub counted : depth ≤ dros_behind dros driver
 
--- three readings of the same wires, in one order, where the gates so far have these stages
-data Follow (n : ℕ) (gates : List ℕ) : Wires ℕ → Wires ℕ → Wires Driver → Type 0 where
-  none : Follow n gates [] [] []
-  more : (wire stage depth : ℕ) (driver : Driver) (stages depths : Wires ℕ) (drivers : Wires Driver) → IsBehind n gates stage depth driver → Follow n gates stages depths drivers → Follow n gates ((wire, stage) ∷ stages) ((wire, depth) ∷ depths) ((wire, driver) ∷ drivers)
+-- three readings of the same wires, in one order, where the gates so far have these stages, and the DROs these drivers
+data Follow (n : ℕ) (gates : List ℕ) (dros : List Driver) : Wires ℕ → Wires ℕ → Wires Driver → Type 0 where
+  none : Follow n gates dros [] [] []
+  more : (wire stage depth : ℕ) (driver : Driver) (stages depths : Wires ℕ) (drivers : Wires Driver) → IsBehind n gates dros stage depth driver → Follow n gates dros stages depths drivers → Follow n gates dros ((wire, stage) ∷ stages) ((wire, depth) ∷ depths) ((wire, driver) ∷ drivers)
 
 -- what is known of the wires as far as a netlist is unfolded
 record Followed (n : ℕ) (stages depths : Wires ℕ) (so : Unfolding) : Type 0 where
-  pub wires : Follow n so.stages stages depths so.wires
+  pub wires : Follow n so.stages so.dros stages depths so.wires
   pub each_stage : length so.stages ≡ length so.gates
 
+-- one DRO more is one more behind its driver, and behind no other one less
+counted-more : (dros : List Driver) (last driver : Driver) → dros_behind dros driver ≤ dros_behind (dros ++ last ∷ []) driver
+counted-more dros last driver = omega (arith, sum_by_push (λ d. cond (same_driver driver d) 1 0) dros last)
+
+counted-last : (dros : List Driver) (driver : Driver) → dros_behind (dros ++ driver ∷ []) driver ≡ dros_behind dros driver + 1
+counted-last dros driver =
+    sum_by_push (λ d. cond (same_driver driver d) 1 0) dros driver
+    ∙ ap (λ b. dros_behind dros driver + cond b 1 0) ((same_driver-decides driver driver).1 refl)
+
 module _ (n : ℕ) where
-  follow-append : (gates : List ℕ) (a a' b b' : Wires ℕ) (d d' : Wires Driver) → Follow n gates a b d → Follow n gates a' b' d' → Follow n gates (a ++ a') (b ++ b') (d ++ d')
-  follow-append gates _ a' _ b' _ d' none q = q
-  follow-append gates _ a' _ b' _ d' (more wire s v w a b d h p) q = more wire s v w (a ++ a') (b ++ b') (d ++ d') h (follow-append gates a a' b b' d d' p q)
+  follow-append : (gates : List ℕ) (dros : List Driver) (a a' b b' : Wires ℕ) (d d' : Wires Driver) → Follow n gates dros a b d → Follow n gates dros a' b' d' → Follow n gates dros (a ++ a') (b ++ b') (d ++ d')
+  follow-append gates dros _ a' _ b' _ d' none q = q
+  follow-append gates dros _ a' _ b' _ d' (more wire s v w a b d h p) q = more wire s v w (a ++ a') (b ++ b') (d ++ d') h (follow-append gates dros a a' b b' d d' p q)
 
   -- a wire that is made is behind its driver
-  follow-found : (gates : List ℕ) (a b : Wires ℕ) (d : Wires Driver) (wire stage : ℕ) → Follow n gates a b d → found a wire ≡ Some stage → IsBehind n gates stage (carried 0 b wire) (driver_of d wire)
-  follow-found gates _ _ _ wire stage none e = cc
-  follow-found gates _ _ _ wire stage (more other s v w a b d h p) e = by (wire == other) (λ e. follow-found gates a b d wire stage p e) e
+  follow-found : (gates : List ℕ) (dros : List Driver) (a b : Wires ℕ) (d : Wires Driver) (wire stage : ℕ) → Follow n gates dros a b d → found a wire ≡ Some stage → IsBehind n gates dros stage (carried 0 b wire) (driver_of d wire)
+  follow-found gates dros _ _ _ wire stage none e = cc
+  follow-found gates dros _ _ _ wire stage (more other s v w a b d h p) e = by (wire == other) (λ e. follow-found gates dros a b d wire stage p e) e
     where
-      by : (same : Bool) → (found a wire ≡ Some stage → IsBehind n gates stage (carried 0 b wire) (driver_of d wire)) → (if same then Some s else found a wire) ≡ Some stage → IsBehind n gates stage (unwrap_or (if same then Some v else found b wire) 0) (unwrap_or (if same then Some w else found d wire) (Input 0))
-      by true rest e = let t : s ≡ stage = cc in subst (λ s. IsBehind n gates s v w) t h
+      by : (same : Bool) → (found a wire ≡ Some stage → IsBehind n gates dros stage (carried 0 b wire) (driver_of d wire)) → (if same then Some s else found a wire) ≡ Some stage → IsBehind n gates dros stage (unwrap_or (if same then Some v else found b wire) 0) (unwrap_or (if same then Some w else found d wire) (Input 0))
+      by true rest e = let t : s ≡ stage = cc in subst (λ s. IsBehind n gates dros s v w) t h
       by false rest e = rest e
 
+  -- a wire is no deeper than its driver has DROs; one that isn't made has depth 0
+  follow-counted : (gates : List ℕ) (dros : List Driver) (a b : Wires ℕ) (d : Wires Driver) (wire : ℕ) → Follow n gates dros a b d → carried 0 b wire ≤ dros_behind dros (driver_of d wire)
+  follow-counted gates dros _ _ _ wire none = omega arith
+  follow-counted gates dros _ _ _ wire (more other s v w a b d h p) = by (wire == other) (follow-counted gates dros a b d wire p)
+    where
+      by : (same : Bool) → carried 0 b wire ≤ dros_behind dros (driver_of d wire) → unwrap_or (if same then Some v else found b wire) 0 ≤ dros_behind dros (unwrap_or (if same then Some w else found d wire) (Input 0))
+      by true rest = h.counted
+      by false rest = rest
+
   -- and a wire that has no stage has no driver
-  follow-absent : (gates : List ℕ) (a b : Wires ℕ) (d : Wires Driver) (wire : ℕ) → Follow n gates a b d → found a wire ≡ None → is_some (found d wire) ≡ false
-  follow-absent gates _ _ _ wire none e = refl
-  follow-absent gates _ _ _ wire (more other s v w a b d h p) e = by (wire == other) (λ e. follow-absent gates a b d wire p e) e
+  follow-absent : (gates : List ℕ) (dros : List Driver) (a b : Wires ℕ) (d : Wires Driver) (wire : ℕ) → Follow n gates dros a b d → found a wire ≡ None → is_some (found d wire) ≡ false
+  follow-absent gates dros _ _ _ wire none e = refl
+  follow-absent gates dros _ _ _ wire (more other s v w a b d h p) e = by (wire == other) (λ e. follow-absent gates dros a b d wire p e) e
     where
       by : (same : Bool) → (found a wire ≡ None → is_some (found d wire) ≡ false) → (if same then Some s else found a wire) ≡ None → is_some (if same then Some w else found d wire) ≡ false
       by true rest e = cc
       by false rest e = rest e
 
   -- a wire that is new is made with its driver
-  follow-make : (gates : List ℕ) (a b : Wires ℕ) (d : Wires Driver) (wire stage depth : ℕ) (driver : Driver) → Follow n gates a b d → found a wire ≡ None → IsBehind n gates stage depth driver → Follow n gates (a ++ (wire, stage) ∷ []) (b ++ (wire, depth) ∷ []) (with_wire d wire driver)
-  follow-make gates a b d wire stage depth driver p new h =
-      let put : d ++ (wire, driver) ∷ [] ≡ with_wire d wire driver = sym (ap (λ s. if s then d else d ++ (wire, driver) ∷ []) (follow-absent gates a b d wire p new)) in
-      subst (λ (w : Wires Driver). Follow n gates (a ++ (wire, stage) ∷ []) (b ++ (wire, depth) ∷ []) w) put
-      (follow-append gates a ((wire, stage) ∷ []) b ((wire, depth) ∷ []) d ((wire, driver) ∷ []) p (more wire stage depth driver [] [] [] h none))
+  follow-make : (gates : List ℕ) (dros : List Driver) (a b : Wires ℕ) (d : Wires Driver) (wire stage depth : ℕ) (driver : Driver) → Follow n gates dros a b d → found a wire ≡ None → IsBehind n gates dros stage depth driver → Follow n gates dros (a ++ (wire, stage) ∷ []) (b ++ (wire, depth) ∷ []) (with_wire d wire driver)
+  follow-make gates dros a b d wire stage depth driver p new h =
+      let put : d ++ (wire, driver) ∷ [] ≡ with_wire d wire driver = sym (ap (λ s. if s then d else d ++ (wire, driver) ∷ []) (follow-absent gates dros a b d wire p new)) in
+      subst (λ (w : Wires Driver). Follow n gates dros (a ++ (wire, stage) ∷ []) (b ++ (wire, depth) ∷ []) w) put
+      (follow-append gates dros a ((wire, stage) ∷ []) b ((wire, depth) ∷ []) d ((wire, driver) ∷ []) p (more wire stage depth driver [] [] [] h none))
 
   -- one gate more leaves the stages of those before
-  behind-more : (gates : List ℕ) (last stage depth : ℕ) (driver : Driver) → IsBehind n gates stage depth driver → IsBehind n (gates ++ last ∷ []) stage depth driver
-  behind-more gates last stage depth (Input i) h = record { there = tt; after = h.after; within = h.within }
-  behind-more gates last stage depth (Gate k) h =
+  behind-more : (gates : List ℕ) (dros : List Driver) (last stage depth : ℕ) (driver : Driver) → IsBehind n gates dros stage depth driver → IsBehind n (gates ++ last ∷ []) dros stage depth driver
+  behind-more gates dros last stage depth (Input i) h = record { there = tt; after = h.after; within = h.within; counted = h.counted }
+  behind-more gates dros last stage depth (Gate k) h =
       let before : k < length gates = h.there in
       let same : get_or (gates ++ last ∷ []) k 0 ≡ get_or gates k 0 = get_or_append_left gates (last ∷ []) 0 k before in
       record {
         there = omega (arith, length_push gates last);
         after = subst (λ s. s ≤ stage) (sym same) h.after;
         within = subst (λ s. stage ≤ s + n * depth) (sym same) h.within;
+        counted = h.counted;
       }
 
-  follow-more : (gates : List ℕ) (last : ℕ) (a b : Wires ℕ) (d : Wires Driver) → Follow n gates a b d → Follow n (gates ++ last ∷ []) a b d
-  follow-more gates last _ _ _ none = none
-  follow-more gates last _ _ _ (more wire s v w a b d h p) = more wire s v w a b d (behind-more gates last s v w h) (follow-more gates last a b d p)
+  follow-more : (gates : List ℕ) (dros : List Driver) (last : ℕ) (a b : Wires ℕ) (d : Wires Driver) → Follow n gates dros a b d → Follow n (gates ++ last ∷ []) dros a b d
+  follow-more gates dros last _ _ _ none = none
+  follow-more gates dros last _ _ _ (more wire s v w a b d h p) = more wire s v w a b d (behind-more gates dros last s v w h) (follow-more gates dros last a b d p)
 
   -- a gate's wire has the gate's stage
-  behind-new : (gates : List ℕ) (stage k : ℕ) → length gates ≡ k → IsBehind n (gates ++ stage ∷ []) stage 0 (Gate k)
-  behind-new gates stage k last =
+  behind-new : (gates : List ℕ) (dros : List Driver) (stage k : ℕ) → length gates ≡ k → IsBehind n (gates ++ stage ∷ []) dros stage 0 (Gate k)
+  behind-new gates dros stage k last =
       let same : get_or (gates ++ stage ∷ []) k 0 ≡ stage = get_or_push gates stage 0 k last in
       record {
         there = omega (arith, length_push gates stage, last);
         after = omega (arith, same);
         within = omega (arith, same);
+        counted = omega arith;
       }
 
-  -- a DRO reads its pin 1 to n ticks after the pin's stage
-  behind-dro : (gates : List ℕ) (source stage depth : ℕ) (driver : Driver) → IsBehind n gates source depth driver → source < stage → stage ≤ source + n → IsBehind n gates stage (depth + 1) driver
-  behind-dro gates source stage depth driver h after within =
+  -- one DRO more takes none away,
+  behind-passed : (gates : List ℕ) (dros : List Driver) (last : Driver) (stage depth : ℕ) (driver : Driver) → IsBehind n gates dros stage depth driver → IsBehind n gates (dros ++ last ∷ []) stage depth driver
+  behind-passed gates dros last stage depth driver h =
+      record { there = h.there; after = h.after; within = h.within; counted = omega (arith, h.counted, counted-more dros last driver) }
+
+  follow-passed : (gates : List ℕ) (dros : List Driver) (last : Driver) (a b : Wires ℕ) (d : Wires Driver) → Follow n gates dros a b d → Follow n gates (dros ++ last ∷ []) a b d
+  follow-passed gates dros last _ _ _ none = none
+  follow-passed gates dros last _ _ _ (more wire s v w a b d h p) = more wire s v w a b d (behind-passed gates dros last s v w h) (follow-passed gates dros last a b d p)
+
+  -- and it reads its pin 1 to n ticks after the pin's stage
+  behind-dro : (gates : List ℕ) (dros : List Driver) (source stage depth : ℕ) (driver : Driver) → IsBehind n gates dros source depth driver → source < stage → stage ≤ source + n → IsBehind n gates (dros ++ driver ∷ []) stage (depth + 1) driver
+  behind-dro gates dros source stage depth driver h after within =
       let e : n * (depth + 1) ≡ n * depth + n = grind arith in
-      record { there = h.there; after = omega (arith, h.after, after); within = omega (arith, h.within, within, e) }
+      record {
+        there = h.there;
+        after = omega (arith, h.after, after);
+        within = omega (arith, h.within, within, e);
+        counted = omega (arith, h.counted, counted-last dros driver);
+      }
 
   -- a new wire with its driver
-  make_followed : (a b : Wires ℕ) (so : Unfolding) → Followed n a b so → (wire stage depth : ℕ) (driver : Driver) → found a wire ≡ None → IsBehind n so.stages stage depth driver → Followed n (a ++ (wire, stage) ∷ []) (b ++ (wire, depth) ∷ []) (make_driven wire driver so)
+  make_followed : (a b : Wires ℕ) (so : Unfolding) → Followed n a b so → (wire stage depth : ℕ) (driver : Driver) → found a wire ≡ None → IsBehind n so.stages so.dros stage depth driver → Followed n (a ++ (wire, stage) ∷ []) (b ++ (wire, depth) ∷ []) (make_driven wire driver so)
   make_followed a b so t wire stage depth driver new h =
-      record { wires = follow-make so.stages a b so.wires wire stage depth driver t.wires new h; each_stage = t.each_stage }
+      record { wires = follow-make so.stages so.dros a b so.wires wire stage depth driver t.wires new h; each_stage = t.each_stage }
 
   -- a DRO
   dro_followed : (a b : Wires ℕ) (so : Unfolding) → Followed n a b so → (stage out : ℕ) (pins : List ℕ) → length pins ≡ 1 → ArriveInTime n a stage pins → found a out ≡ None → Followed n (a ++ (out, stage) ∷ []) (b ++ (out, cell_depth Dro stage (map (carried 0 b) pins)) ∷ []) (pass_dro out (dro_driver (map (driver_of so.wires) pins)) so)
   dro_followed a b so t stage out [] one h new = absurd (omega arith)
   dro_followed a b so t stage out (pin ∷ []) one h new =
       let time = h.0.2 in
-      let source = follow-found so.stages a b so.wires pin h.0.0 t.wires h.0.1 in
-      let passed = behind-dro so.stages h.0.0 stage (carried 0 b pin) (driver_of so.wires pin) source time.after time.within in
-      record { wires = follow-make so.stages a b so.wires out stage (carried 0 b pin + 1) (driver_of so.wires pin) t.wires new passed; each_stage = t.each_stage }
+      let driver = driver_of so.wires pin in
+      let source = follow-found so.stages so.dros a b so.wires pin h.0.0 t.wires h.0.1 in
+      let passed = behind-dro so.stages so.dros h.0.0 stage (carried 0 b pin) driver source time.after time.within in
+      let later = follow-passed so.stages so.dros driver a b so.wires t.wires in
+      record { wires = follow-make so.stages (so.dros ++ driver ∷ []) a b so.wires out stage (carried 0 b pin + 1) driver later new passed; each_stage = t.each_stage }
   dro_followed a b so t stage out (pin ∷ (other ∷ pins)) one h new = absurd (omega arith)
 
   -- a gate
@@ -125,7 +166,7 @@ module _ (n : ℕ) where
   gate_followed a b so t cell stage out pins new =
       let row : GateRow = record { cell = cell; pins = pins } in
       record {
-        wires = follow-make (so.stages ++ stage ∷ []) a b so.wires out stage 0 (Gate (length so.gates)) (follow-more so.stages stage a b so.wires t.wires) new (behind-new so.stages stage (length so.gates) t.each_stage);
+        wires = follow-make (so.stages ++ stage ∷ []) so.dros a b so.wires out stage 0 (Gate (length so.gates)) (follow-more so.stages so.dros stage a b so.wires t.wires) new (behind-new so.stages so.dros stage (length so.gates) t.each_stage);
         each_stage = omega (arith, t.each_stage, length_push so.stages stage, length_push so.gates row);
       }
 
@@ -135,7 +176,7 @@ module _ (n : ℕ) where
       let v = carried 0 b from in
       let d = driver_of so.wires from in
       let stage : h.0 ≡ s = ap (λ o. unwrap_or o 0) (sym h.1) in
-      let source : IsBehind n so.stages s v d = subst (λ x. IsBehind n so.stages x v d) stage (follow-found so.stages a b so.wires from h.0 t.wires h.1) in
+      let source : IsBehind n so.stages so.dros s v d = subst (λ x. IsBehind n so.stages so.dros x v d) stage (follow-found so.stages so.dros a b so.wires from h.0 t.wires h.1) in
       let one = make_followed a b so t left s v d (new_wire a left (right ∷ rest) distinct) source in
       let new = new_wire (a ++ (left, s) ∷ []) right rest (behind_wire a left s (right ∷ rest) distinct) in
       let two = make_followed (a ++ (left, s) ∷ []) (b ++ (left, v) ∷ []) (make_driven left d so) one right s v d new source in
@@ -167,7 +208,7 @@ module _ (n : ℕ) where
   inputs_followed a b so t (None ∷ used) place rest distinct = inputs_followed a b so t used (place + 1) rest distinct
   inputs_followed a b so t (Some wire ∷ used) place rest distinct =
       let more = flat_map option_to_list used ++ rest in
-      let source : IsBehind n so.stages 0 0 (Input place) = record { there = tt; after = omega arith; within = omega arith } in
+      let source : IsBehind n so.stages so.dros 0 0 (Input place) = record { there = tt; after = omega arith; within = omega arith; counted = omega arith } in
       let one = make_followed a b so t wire 0 0 (Input place) (new_wire a wire more distinct) source in
       let so' : Unfolding = unfold_inputs (place + 1) used (make_driven wire (Input place) so) in
       let all = inputs_followed (a ++ (wire, 0) ∷ []) (b ++ (wire, 0) ∷ []) (make_driven wire (Input place) so) one used (place + 1) rest (behind_wire a wire 0 more distinct) in
@@ -186,5 +227,10 @@ followed net valid =
 pub stages_follow_depths : StagesFollowDepths
 stages_follow_depths net wire stage valid made =
     let t = followed net valid in
-    let behind = follow-found net.phases (unfolding_of net).stages (stages_of net) (depths_of net) (unfolding_of net).wires wire stage t.wires made in
+    let behind = follow-found net.phases (unfolding_of net).stages (unfolding_of net).dros (stages_of net) (depths_of net) (unfolding_of net).wires wire stage t.wires made in
     (behind.after, behind.within)
+
+pub dros_follow_depths : DrosFollowDepths
+dros_follow_depths net wire valid =
+    let so = unfolding_of net in
+    follow-counted net.phases so.stages so.dros (stages_of net) (depths_of net) so.wires wire (followed net valid).wires

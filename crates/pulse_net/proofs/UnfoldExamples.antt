@@ -1,5 +1,5 @@
 -- Small netlists by hand, unfolded by evaluation.
-use Rattle.std.specs.Prelude.{◌≡◌, ℕ, List, [], ◌∷◌, Some, refl}
+use Rattle.std.specs.Prelude.{◌≡◌, ℕ, List, [], ◌∷◌, map, Some, refl}
 use Rattle.cell_lib.specs.declared.cell.Cell.{Cell}
 use Rattle.cell_lib.specs.declared.cell.Cell.TheVariants.{Dro, Not, And}
 use Rattle.gate_net.specs.declared.row.Driver.{Driver}
@@ -13,8 +13,9 @@ use Rattle.pulse_net.specs.declared.net.Outlet.{Outlet}
 use Rattle.pulse_net.specs.declared.net.Outlet.TheVariants.{Zero, Wire}
 use Rattle.pulse_net.specs.declared.net.PulseNet.{PulseNet}
 use Rattle.pulse_net.specs.declared.unfolding.Unfolded.{Unfolded}
-use Rattle.pulse_net.specs.Unfolding.{unfolded, gate_wires}
-use Rattle.pulse_net.specs.Depths.{depths_of}
+use Rattle.pulse_net.specs.Unfolding.{unfolding_of, unfolded, gate_wires}
+use Rattle.pulse_net.specs.Dros.{dros}
+use Rattle.pulse_net.specs.Depths.{depths_of, dros_behind}
 
 -- a model `m` with inputs `a` and `b` on wires 0 and 1, and an output `f`
 abbrev netlist : ℕ → ℕ → List Element → Outlet → PulseNet
@@ -53,9 +54,20 @@ one_phase-wires = refl
 one_phase-depths : depths_of one_phase ≡ (0, 0) ∷ ((1, 0) ∷ ((2, 1) ∷ ((3, 0) ∷ ((4, 0) ∷ []))))
 one_phase-depths = refl
 
+-- a passes a DRO, and on one side of a splitter a second one
+abbrev two_deep : PulseNet
+two_deep = netlist 1 3 (Clocked Dro 1 (0 ∷ []) 2 ∷ (Split 2 3 4 ∷ (Clocked Dro 2 (3 ∷ []) 5 ∷ (Clocked And 2 (1 ∷ (4 ∷ [])) 6 ∷ [])))) (Wire 6)
+
 -- both sides of a splitter are as deep as its source
-split-depths : depths_of (netlist 1 3 (Clocked Dro 1 (0 ∷ []) 2 ∷ (Split 2 3 4 ∷ (Clocked Dro 2 (3 ∷ []) 5 ∷ (Clocked And 2 (1 ∷ (4 ∷ [])) 6 ∷ [])))) (Wire 6)) ≡ (0, 0) ∷ ((1, 0) ∷ ((2, 1) ∷ ((3, 1) ∷ ((4, 1) ∷ ((5, 2) ∷ ((6, 0) ∷ []))))))
+split-depths : depths_of two_deep ≡ (0, 0) ∷ ((1, 0) ∷ ((2, 1) ∷ ((3, 1) ∷ ((4, 1) ∷ ((5, 2) ∷ ((6, 0) ∷ []))))))
 split-depths = refl
+
+-- there are two DROs, and a is the driver of both
+two_deep-counted : dros two_deep.elements ≡ 2
+two_deep-counted = refl
+
+two_deep-dros : map (dros_behind (unfolding_of two_deep).dros) (Input 0 ∷ (Input 1 ∷ (Gate 0 ∷ []))) ≡ 2 ∷ (0 ∷ (0 ∷ []))
+two_deep-dros = refl
 
 -- four phases: stage 5 is phase 1 of epoch 1, by way of a DRO
 by_way_of_dro-unfolds : unfolded (netlist 4 2 (Clocked Dro 4 (0 ∷ []) 2 ∷ (Clocked Not 5 (2 ∷ []) 3 ∷ [])) (Wire 3)) ≡ gates_of (gate Not (Input 0 ∷ []) ∷ []) (ends.From (Gate 0)) (1 ∷ []) (1 ∷ []) 2 1

@@ -1,9 +1,10 @@
--- How deep a wire is behind its driver, and what that has to do with its stage.
-use Rattle.std.specs.Prelude.{◌≡◌, ℕ, ◌+◌, ◌*◌, ◌≤◌, List, Some, slice_index_or}
+-- How deep a wire is behind its driver, and what that has to do with its stage and with its driver's DROs.
+use Rattle.std.specs.Prelude.{◌≡◌, ℕ, ◌+◌, ◌*◌, ◌≤◌, List, Some, slice_index_or, count_by}
 use Rattle.cell_lib.specs.declared.cell.Cell.{Cell}
 use Rattle.cell_lib.specs.declared.cell.Cell.TheVariants.{Dro}
 use Rattle.gate_net.specs.declared.row.Driver.{Driver}
 use Rattle.gate_net.specs.declared.row.Driver.TheVariants.{Input, Gate}
+use Rattle.gate_net.specs.Rows.{same_driver}
 use Rattle.pulse_net.specs.declared.net.PulseNet.{PulseNet}
 use Rattle.pulse_net.specs.Wires.{Wires, found, carried, wires_of, stages_of}
 use Rattle.pulse_net.specs.Validity.{IsValid}
@@ -31,3 +32,13 @@ StagesFollowDepths =
     (net : PulseNet) (wire stage : ℕ) → IsValid net → found (stages_of net) wire ≡ Some stage
     → (driver_stage (unfolding_of net).stages (driver_of (unfolding_of net).wires wire) ≤ stage)
     × (stage ≤ driver_stage (unfolding_of net).stages (driver_of (unfolding_of net).wires wire) + net.phases * carried 0 (depths_of net) wire)
+
+-- of DROs with these drivers, how many have this one
+abbrev pub dros_behind : List Driver → Driver → ℕ
+dros_behind dros driver = count_by (same_driver driver) dros
+
+-- In a valid netlist a wire is no deeper than its driver has DROs. A wire that isn't made has depth 0.
+abbrev pub DrosFollowDepths : Type 0
+DrosFollowDepths =
+    (net : PulseNet) (wire : ℕ) → IsValid net
+    → carried 0 (depths_of net) wire ≤ dros_behind (unfolding_of net).dros (driver_of (unfolding_of net).wires wire)

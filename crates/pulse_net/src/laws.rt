@@ -1,6 +1,6 @@
 //! What the rules and the pulses mean, as laws on every netlist. A law takes nothing and does nothing: its clause is the law.
 
-ghost use Rattle.pulse_net.specs.Depths.{StagesFollowDepths};
+ghost use Rattle.pulse_net.specs.Depths.{DrosFollowDepths, StagesFollowDepths};
 ghost use Rattle.pulse_net.specs.Dros.{UnfoldsItsDros};
 ghost use Rattle.pulse_net.specs.GatePulses.{UnfoldedPulses};
 ghost use Rattle.pulse_net.specs.Laws.{NamesTheLeast, PulsesAreRowValues, ReadsAreRowValues, UnbrokenIsWired};
@@ -43,4 +43,9 @@ pub fn unfolds_its_dros()
 /// n * k ticks at most. The stage of an input is 0.
 pub fn stages_follow_depths()
     ensures { StagesFollowDepths }
+{}
+
+/// In a valid netlist a wire that passed k DROs behind its driver has a driver with k DROs at least.
+pub fn dros_follow_depths()
+    ensures { DrosFollowDepths }
 {}
