@@ -22,18 +22,17 @@ AreInputs made place [] = ⊤
 AreInputs made place (None ∷ wires) = AreInputs made (place + 1) wires
 AreInputs made place (Some wire ∷ wires) = (found made wire ≡ Some (Input place)) × AreInputs made (place + 1) wires
 
--- what inputs make: their wires with their drivers, and nothing else
+-- what inputs make: their wires with their drivers, and no wire from the next one on
 pub record AreMade (so later : Unfolding) (next place : ℕ) (wires : List (Option ℕ)) : Type 0 where
   pub fresh : IsFresh next later.wires
   pub made : AreInputs later.wires place wires
   pub kept : AreKept so later
-  pub dros : later.dros ≡ so.dros
 
 pub AreMade-inputs : (chained : Chained) (input next more : ℕ) (so : Unfolding) → IsFresh next so.wires →
     AreMade so (unfold_inputs input (input_wires chained input next more) so) (next + wire_count (input_wires chained input next more)) input (input_wires chained input next more)
 AreMade-inputs chained input next zero so fresh =
     let e : next ≡ next + 0 = omega arith in
-    subst (λ n. AreMade so so n input []) e (record { fresh = fresh; made = tt; kept = AreKept-same so; dros = refl })
+    subst (λ n. AreMade so so n input []) e (record { fresh = fresh; made = tt; kept = AreKept-same so })
 AreMade-inputs chained input next (suc more) so fresh = by (is_used chained (Input input)) (λ from start new. AreMade-inputs chained (input + 1) from more start new)
   where
     by : (used : Bool) →
@@ -52,7 +51,6 @@ AreMade-inputs chained input next (suc more) so fresh = by (is_used chained (Inp
           fresh = subst (λ n. IsFresh n later.wires) e done.fresh;
           made = (done.kept.wires next (Input input) (with_wire-found so.wires next (Input input) (fresh next (omega arith))), done.made);
           kept = AreKept-then so one later first done.kept;
-          dros = done.dros;
         }
     by false rest =
         let wires = input_wires chained (input + 1) (next + 0) more in
@@ -60,7 +58,7 @@ AreMade-inputs chained input next (suc more) so fresh = by (is_used chained (Inp
         let z : next ≡ next + 0 = omega arith in
         let done = rest (next + 0) so (subst (λ n. IsFresh n so.wires) z fresh) in
         let e : (next + 0) + wire_count wires ≡ next + wire_count wires = omega arith in
-        record { fresh = subst (λ n. IsFresh n later.wires) e done.fresh; made = done.made; kept = done.kept; dros = done.dros }
+        record { fresh = subst (λ n. IsFresh n later.wires) e done.fresh; made = done.made; kept = done.kept }
 
 -- The chains of the inputs from one on: behind them the pins of these inputs take wires of theirs.
 pub Drives-inputs : (chained : Chained) (start : Unfolding) (input next more : ℕ) (layout : Layout) →

@@ -16,12 +16,13 @@ use Rattle.pulse_net.specs.declared.net.Element.{Element}
 use Rattle.pulse_net.specs.declared.net.Element.TheVariants.{Clocked, Split}
 use Rattle.pulse_net.specs.Wires.{Wires}
 use Rattle.pulse_net.specs.Unfolding.{Unfolding, driver_of, dro_driver, end_of, phases_of, epochs_of, nothing_unfolded, unfold_element, unfold_elements, unfold_inputs, unfolding_of}
+use Rattle.pulse_net.proofs.Dros.{unfolds_its_dros}
 use Rattle.flow_net.specs.Network.{network_of}
 use Rattle.flow_net.specs.Epochs.{dro_count}
 use Rattle.dro_chains.specs.declared.chain.Chained.{Chained}
 use Rattle.dro_chains.specs.Chains.{chained_of, stages_of}
 use Rattle.splitters.specs.Elements.{with_inputs, gate_pins, outlets, wire_count, inputs_of, empty_layout, layout_of, elements_of}
-use Rattle.splitters.specs.Laws.{dros, ChainsUnfold}
+use Rattle.splitters.specs.Laws.{ChainsUnfold}
 use Rattle.splitters.proofs.WiredPins.{AreStaged}
 use Rattle.splitters.proofs.WiredChains.{by_driver}
 use Rattle.splitters.proofs.WiredGates.{AreReached, before_gate, AreGatesFrom, tap_count-gate}
@@ -91,19 +92,6 @@ outlets-ends made needs taken gates pin (One ∷ ends) all h = ap (λ (es : List
 outlets-ends made needs taken gates pin (From driver ∷ ends) all h =
     (λ i. From (driver_of-found made (get_or taken pin 0) driver (h.0 all.0) i) ∷ outlets-ends made needs taken gates (pin + 1) ends all.1 h.1 i)
 
--- as many DROs are passed as there are among the elements
-dros-passed : (elements : List Element) (so : Unfolding) → length (unfold_elements elements so).dros ≡ length so.dros + dros elements
-dros-passed [] so = omega arith
-dros-passed (Split from left right ∷ elements) so = dros-passed elements (unfold_element (Split from left right) so)
-dros-passed (Clocked Dro stage pins out ∷ elements) so =
-    let rest = dros-passed elements (unfold_element (Clocked Dro stage pins out) so) in
-    let one = length_push so.dros (dro_driver (map (driver_of so.wires) pins)) in
-    omega (arith, rest, one)
-dros-passed (Clocked Not stage pins out ∷ elements) so = let rest = dros-passed elements (unfold_element (Clocked Not stage pins out) so) in omega (arith, rest)
-dros-passed (Clocked And stage pins out ∷ elements) so = let rest = dros-passed elements (unfold_element (Clocked And stage pins out) so) in omega (arith, rest)
-dros-passed (Clocked Or stage pins out ∷ elements) so = let rest = dros-passed elements (unfold_element (Clocked Or stage pins out) so) in omega (arith, rest)
-dros-passed (Clocked Xor stage pins out ∷ elements) so = let rest = dros-passed elements (unfold_element (Clocked Xor stage pins out) so) in omega (arith, rest)
-
 -- ---- stages
 
 stages_from-later : (stages : List ℕ) (stage gate more : ℕ) → stages_from (stage ∷ stages) (gate + 1) more ≡ stages_from stages gate more
@@ -159,10 +147,8 @@ chains_unfold net phases n epochs names has =
     outlets-ends so.wires chained.needs layout.taken (length net.gates) (gate_pins net.gates) net.outputs (ends-reached net.inputs (length net.gates) net.outputs formed.outputs) built.drives.driven in
     let its_phases : phases_of n so.stages ≡ phases = ap (phases_of n) stages ∙ phases-back n epochs.gates phases each low in
     let its_epochs : epochs_of n so.stages ≡ epochs.gates = ap (epochs_of n) stages ∙ epochs-back n epochs.gates phases each low in
-    let passed = dros-passed layout.elements start in
-    let none = ap length (made-inputs chained).dros in
     let count = (dros_are_the_count net phases n epochs names has).1 in
-    let its_dros : length so.dros ≡ dro_count (network_of net phases) epochs = omega (arith, passed, none) ∙ count in
+    let its_dros : length so.dros ≡ dro_count (network_of net phases) epochs = unfolds_its_dros (elements_of chained names) ∙ count in
     λ i. record {
       gates = record { inputs = inputs i; gates = built.gates i; outputs = outputs i };
       phases = its_phases i;

@@ -9,7 +9,8 @@ use Rattle.pulse_net.specs.Wires.{Wires, found}
 use Rattle.pulse_net.specs.Unfolding.{Unfolding, driver_of, with_wire, unfold_element, unfold_elements}
 use Rattle.splitters.specs.Spread.{first_half, tree_lines, tree_wires}
 use Rattle.splitters.proofs.Trees.{half-below, rest-below}
-use Rattle.splitters.proofs.WiredCounts.{found-stays, found-behind, AreFound, AreFound-append, same-found, nat_eq-other}
+use Rattle.pulse_net.proofs.Traced.{found-append}
+use Rattle.splitters.proofs.WiredCounts.{found-behind, AreFound, AreFound-append, same-found, nat_eq-other}
 
 -- what is found in the one is found in the other
 abbrev pub Keeps : Wires Driver → Wires Driver → Type 0
@@ -32,7 +33,7 @@ with_wire-keeps made wire driver other its h = by (is_some (found made wire))
   where
     by : (here : Bool) → found (if here then made else made ++ (wire, driver) ∷ []) other ≡ Some its
     by true = h
-    by false = found-stays made ((wire, driver) ∷ []) other its h
+    by false = found-append made ((wire, driver) ∷ []) other its h
 
 pub with_wire-found : (made : Wires Driver) (wire : ℕ) (driver : Driver) → found made wire ≡ None → found (with_wire made wire driver) wire ≡ Some driver
 with_wire-found made wire driver new =

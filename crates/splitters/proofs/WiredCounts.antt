@@ -9,6 +9,7 @@ use Rattle.pulse_net.specs.declared.net.Element.{Element}
 use Rattle.pulse_net.specs.Wires.{Wires, found, element_wires, after_elements, cell_stage}
 use Rattle.pulse_net.specs.Wired.{ElementsInTime}
 use Rattle.pulse_net.specs.Validity.{is_among}
+use Rattle.pulse_net.proofs.Traced.{found-append}
 
 -- one for the wire itself, and nothing for another
 pub once : ℕ → ℕ → ℕ
@@ -38,15 +39,6 @@ run-append from (suc m) n =
 pub run-split : (from middle m n : ℕ) → from + m ≡ middle → run from (m + n) ≡ run from m ++ run middle n
 run-split from middle m n e = run-append from m n ∙ ap (λ k. run from m ++ run k n) e
 
--- what is found stays found behind more
-pub found-stays : {A : Type 0} (made more : Wires A) (wire : ℕ) (a : A) → found made wire ≡ Some a → found (made ++ more) wire ≡ Some a
-found-stays [] more wire a h = cc
-found-stays (one ∷ made) more wire a h = by (nat_eq wire one.0) (found-stays made more wire a) h
-  where
-    by : (here : Bool) → (found made wire ≡ Some a → found (made ++ more) wire ≡ Some a) → cond here (Some one.1) (found made wire) ≡ Some a → cond here (Some one.1) (found (made ++ more) wire) ≡ Some a
-    by true rest e = e
-    by false rest e = rest e
-
 -- what isn't found yet is found in what follows
 pub found-behind : {A : Type 0} (made more : Wires A) (wire : ℕ) → found made wire ≡ None → found (made ++ more) wire ≡ found more wire
 found-behind [] more wire h = refl
@@ -67,7 +59,7 @@ after-append made (x ∷ xs) ys = after-append (made ++ element_wires 0 cell_sta
 pub after-stays : (made : Wires ℕ) (elements : List Element) (wire stage : ℕ) → found made wire ≡ Some stage → found (after made elements) wire ≡ Some stage
 after-stays made [] wire stage h = h
 after-stays made (x ∷ xs) wire stage h =
-    after-stays (made ++ element_wires 0 cell_stage made x) xs wire stage (found-stays made (element_wires 0 cell_stage made x) wire stage h)
+    after-stays (made ++ element_wires 0 cell_stage made x) xs wire stage (found-append made (element_wires 0 cell_stage made x) wire stage h)
 
 pub in_time-append : (phases : ℕ) (made : Wires ℕ) (xs ys : List Element) → ElementsInTime phases made xs → ElementsInTime phases (after made xs) ys → ElementsInTime phases made (xs ++ ys)
 in_time-append phases made [] ys before rest = rest

@@ -12,11 +12,12 @@ use Rattle.gate_net.specs.Rows.{same_driver}
 use Rattle.gate_net.specs.Net.{IsGate, pin_drivers}
 use Rattle.pulse_net.specs.declared.net.Element.{Element}
 use Rattle.pulse_net.specs.declared.net.Element.TheVariants.{Clocked, Split}
+use Rattle.pulse_net.specs.Dros.{is_dro, dros}
 use Rattle.dro_chains.specs.declared.chain.Chained.{Chained}
 use Rattle.splitters.specs.Spread.{first_half, tree_lines, spread_lines}
 use Rattle.splitters.specs.Elements.{Layout, tap_wires, with_tap, with_dro, with_chain, input_wires, with_inputs, with_cell, with_gate, with_gates, inputs_of, empty_layout}
 use Rattle.splitters.specs.Taps.{tap_count, taps_from, taps_of, is_used, input_dros, gate_dros}
-use Rattle.splitters.specs.Laws.{is_dro, dros, DrosAreTheChains}
+use Rattle.splitters.specs.Laws.{DrosAreTheChains}
 use Rattle.splitters.proofs.TapLemmas.{length-taps_from}
 use Rattle.splitters.proofs.WiredGates.{AreGatesFrom}
 use Rattle.splitters.proofs.WiredWhole.{gates-from}

@@ -1,18 +1,15 @@
 -- What is proved of the netlist of gates with shared chains.
-use Rattle.std.specs.Prelude.{◌≡◌, ◌≤◌, ℕ, ◌+◌, ◌*◌, Bool, true, false, cond, List, [], ◌∷◌, length, slice_index, sum, ⊤, flat_map}
-use Rattle.cell_lib.specs.declared.cell.Cell.{Cell}
-use Rattle.cell_lib.specs.declared.cell.Cell.TheVariants.{Dro, Not, And, Or, Xor}
+use Rattle.std.specs.Prelude.{◌≡◌, ◌≤◌, ℕ, ◌+◌, ◌*◌, List, [], ◌∷◌, length, slice_index, sum, ⊤, flat_map}
 use Rattle.gate_net.specs.declared.row.Driver.{Driver}
 use Rattle.gate_net.specs.declared.row.GateRow.{GateRow}
 use Rattle.gate_net.specs.Net.{pin_drivers, end_drivers, IsGateNet, EachGateIsUsed}
-use Rattle.pulse_net.specs.declared.net.Element.{Element}
-use Rattle.pulse_net.specs.declared.net.Element.TheVariants.{Clocked, Split}
 use Rattle.pulse_net.specs.declared.net.Names.{Names}
 use Rattle.pulse_net.specs.declared.net.PulseNet.{PulseNet}
 use Rattle.pulse_net.specs.declared.net.TheConstants.{MAX_PHASES}
 use Rattle.pulse_net.specs.Wired.{IsInTime}
 use Rattle.pulse_net.specs.Validity.{IsValid}
 use Rattle.pulse_net.specs.Unfolding.{unfolded}
+use Rattle.pulse_net.specs.Dros.{dros}
 use Rattle.gate_net.specs.declared.net.GateNet.{GateNet}
 use Rattle.flow_net.specs.declared.net.Epochs.{Epochs}
 use Rattle.flow_net.specs.Network.{network_of}
@@ -75,20 +72,6 @@ abbrev pub ChainsAreValid : Type 0
 ChainsAreValid =
     (net : GateNet) (phases : List ℕ) (n : ℕ) (epochs : Epochs) (names : Names) → HasChains net phases n epochs
     → HasNames (chained_of net phases n epochs) names → IsValid (elements_of (chained_of net phases n epochs) names)
-
--- whether a cell is a DRO
-abbrev pub is_dro : Cell → Bool
-is_dro Dro = true
-is_dro Not = false
-is_dro And = false
-is_dro Or = false
-is_dro Xor = false
-
--- how many DROs there are among these elements
-abbrev pub dros : List Element → ℕ
-dros [] = 0
-dros (Clocked cell stage pins out ∷ elements) = cond (is_dro cell) 1 0 + dros elements
-dros (Split from left right ∷ elements) = dros elements
 
 -- There are as many DROs as the chains are long: a driver's has one for each tap behind its first.
 abbrev pub DrosAreTheChains : Type 0
