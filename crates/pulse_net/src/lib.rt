@@ -37,8 +37,6 @@ mod net;
 mod tests;
 mod trace;
 mod unfolding;
-#[cfg(test)]
-mod unfolding_tests;
 mod validity;
 mod wires;
 

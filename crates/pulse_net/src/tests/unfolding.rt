@@ -1,21 +1,15 @@
 //! Netlists made by hand with the gates that they unfold to, and a long one.
 
 use crate::formed::is_formed;
-use crate::net::{Element, Names, Outlet, PulseNet};
+use crate::net::{Element, Outlet, PulseNet};
+use crate::tests::nets::{Part, elements_of, names};
 use crate::unfolding::{Unfolded, unfold};
 use crate::validity::valid;
 use cell_lib::Cell;
 use gate_net::{Driver, End, GateRow};
-use net_base::{List, Name};
+use net_base::List;
 use std::alloc::Global;
 use std::test::Fail;
-
-/// An element, its pins as an array.
-#[derive(Clone, Copy)]
-enum Part {
-    Cell(Cell, u32, &'static [u32], u32),
-    Split(u32, u32, u32),
-}
 
 /// A netlist of some inputs, all used, on the first wires, with one output.
 #[derive(Clone, Copy)]
@@ -32,31 +26,7 @@ struct Row {
     dros: u64,
 }
 
-fn names(alloc: Global, count: u32) -> Result<List<Name>, Fail> {
-    let mut names = List::new(alloc);
-    for _ in 0..count {
-        names.push(Name::of(alloc, b"x")?)?;
-    }
-    Ok(names)
-}
-
-fn element(alloc: Global, part: Part) -> Result<Element, Fail> {
-    match part {
-        Part::Cell(cell, stage, pins, out) => Ok(Element::Clocked {
-            cell,
-            stage,
-            pins: List::from_vec(Vec::from_slice(alloc, pins)?),
-            out,
-        }),
-        Part::Split(from, left, right) => Ok(Element::Split { from, left, right }),
-    }
-}
-
 fn net_of(alloc: Global, row: &Row) -> Result<PulseNet, Fail> {
-    let mut elements = List::new(alloc);
-    for part in row.parts {
-        elements.push(element(alloc, *part)?)?;
-    }
     let mut inputs = List::new(alloc);
     for wire in 0..row.inputs {
         inputs.push(Some(wire))?;
@@ -64,15 +34,11 @@ fn net_of(alloc: Global, row: &Row) -> Result<PulseNet, Fail> {
     let mut outputs = List::new(alloc);
     outputs.push(row.output)?;
     Ok(PulseNet {
-        names: Names {
-            model: Name::of(alloc, b"m")?,
-            inputs: names(alloc, row.inputs)?,
-            outputs: names(alloc, 1)?,
-        },
+        names: names(alloc, inputs.len(), outputs.len())?,
         phases: row.phases,
         latency: row.latency,
         inputs,
-        elements,
+        elements: elements_of(alloc, row.parts)?,
         outputs,
     })
 }
