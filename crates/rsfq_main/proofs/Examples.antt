@@ -1,5 +1,5 @@
 -- Small texts, words and a netlist by hand, with what the definitions say of them by evaluation: a false definition fails here.
-use Rattle.std.proofs.Common.{◌≡◌, ℕ, List, [], ◌∷◌, Some, None, codes, refl, Err}
+use Rattle.std.proofs.Common.{◌≡◌, ℕ, true, false, List, [], ◌∷◌, Some, None, codes, refl, Err}
 use Rattle.std.specs.Fmt.{digits}
 use Rattle.cell_lib.specs.declared.cell.Cell.TheVariants.{Dro, Not, And}
 use Rattle.pulse_net.specs.declared.net.Element.TheVariants.{Clocked, Split}
@@ -12,6 +12,7 @@ use Rattle.rsfq_main.specs.declared.words.Command.TheVariants.{Map}
 use Rattle.rsfq_main.specs.Words.{phases_in, command_of}
 use Rattle.rsfq_main.specs.PlainForm.{name_at, names_at, name_line_at, further_name_at, table_at, tables_of, model_line_at, lines_of, plain_design}
 use Rattle.rsfq_main.specs.PlainRules.{is_circuit}
+use Rattle.rsfq_main.specs.DesignValues.{row_matches}
 use Rattle.rsfq_main.specs.Spelling.{line, model_lines, header_lines, input_lines, output_lines, spelling_of}
 use Rattle.rsfq_main.specs.Run.{output_of}
 
@@ -23,9 +24,22 @@ two_tables =
       inputs = codes "a" ∷ codes "b" ∷ [];
       outputs = codes "f" ∷ [];
       tables =
-          record { cell = Not; pins = codes "b" ∷ []; target = codes "c" }
-          ∷ record { cell = And; pins = codes "a" ∷ codes "c" ∷ []; target = codes "f" } ∷ [];
+          record { row = false ∷ []; pins = codes "b" ∷ []; target = codes "c" }
+          ∷ record { row = true ∷ true ∷ []; pins = codes "a" ∷ codes "c" ∷ []; target = codes "f" } ∷ [];
     }
+
+-- the row `11` matches two true pins, and the row `0` a false one; a longer row than its pins, none
+both_true : row_matches (true ∷ true ∷ []) (true ∷ true ∷ []) ≡ true
+both_true = refl
+
+one_is_false : row_matches (true ∷ true ∷ []) (true ∷ false ∷ []) ≡ false
+one_is_false = refl
+
+a_false_pin : row_matches (false ∷ []) (false ∷ []) ≡ true
+a_false_pin = refl
+
+a_missing_pin : row_matches (true ∷ true ∷ []) (true ∷ []) ≡ false
+a_missing_pin = refl
 
 text_of_two_tables : plain_design (codes ".model t\n.inputs a b\n.outputs f\n.names b c\n0 1\n.names a c f\n11 1\n.end\n") ≡ Some two_tables
 unfolding name_at names_at name_line_at further_name_at table_at tables_of model_line_at lines_of plain_design is_circuit
@@ -41,10 +55,10 @@ abbrev design_of : List (List ℕ) → List (List ℕ) → List Table → Design
 design_of inputs outputs tables = record { model = codes "t"; inputs = inputs; outputs = outputs; tables = tables }
 
 abbrev inverter : List ℕ → List ℕ → Table
-inverter pin target = record { cell = Not; pins = pin ∷ []; target = target }
+inverter pin target = record { row = false ∷ []; pins = pin ∷ []; target = target }
 
 -- both pins of a table may be one signal
-equal_pins : plain_design (codes ".model t\n.inputs a\n.outputs f\n.names a a f\n11 1\n.end\n") ≡ Some (design_of (codes "a" ∷ []) (codes "f" ∷ []) (record { cell = And; pins = codes "a" ∷ codes "a" ∷ []; target = codes "f" } ∷ []))
+equal_pins : plain_design (codes ".model t\n.inputs a\n.outputs f\n.names a a f\n11 1\n.end\n") ≡ Some (design_of (codes "a" ∷ []) (codes "f" ∷ []) (record { row = true ∷ true ∷ []; pins = codes "a" ∷ codes "a" ∷ []; target = codes "f" } ∷ []))
 unfolding name_at names_at name_line_at further_name_at table_at tables_of model_line_at lines_of plain_design is_circuit
 equal_pins = refl
 

@@ -5,8 +5,10 @@ use Rattle.std.specs.Prelude.{All}
 use Rattle.std.proofs.lemmas.List.Elements.{All-from_recursion}
 use Rattle.indexmap.specs.IndexMap.{IndexMap, insert_entry}
 use Rattle.indexmap.proofs.CallerLemmas.{insert_entry-new}
+use Rattle.cell_lib.specs.declared.cell.Cell.{Cell}
 use Rattle.gate_net.specs.declared.row.Driver.{Driver}
 use Rattle.gate_net.specs.declared.row.Driver.TheVariants.{Gate}
+use Rattle.gate_net.specs.declared.row.GateRow.{GateRow}
 use Rattle.gate_net.specs.Rows.{gate_place}
 use Rattle.gate_net.specs.declared.net.GateNet.{GateNet}
 use Rattle.gate_net.specs.Net.{IsGate, IsGateNet, with_gate}
@@ -14,7 +16,7 @@ use Rattle.std.specs.Map.{keys_of}
 use Rattle.rsfq_main.specs.declared.design.Design.{Design}
 use Rattle.rsfq_main.specs.declared.design.Table.{Table}
 use Rattle.rsfq_main.specs.PlainRules.{Names, IsPlain, are_new}
-use Rattle.rsfq_main.specs.Mapping.{Mapping, Drivers, driver_named, ascending, with_table, inputs_alone, mapping_of, with_outputs, gates_of, IsMapped}
+use Rattle.rsfq_main.specs.Mapping.{Mapping, Drivers, driver_named, ascending, cell_of, gate_of, with_table, inputs_alone, mapping_of, with_outputs, gates_of, IsMapped}
 use Rattle.rsfq_main.specs.MappingSteps.{IsNew, IsDriven, TakesInputs, TakesTable, TakesTables, nothing_mapped, with_driver, with_inputs}
 use Rattle.rsfq_main.proofs.MappingRows.{gate_of-gate}
 use Rattle.rsfq_main.proofs.MappingPlain.{keeps_rules, takes-inputs, inputs_alone-is, plain-takes, plain-sound}
@@ -31,22 +33,25 @@ answer-drive drivers entries net now name key driver view new copied put =
     let pushed : entries ≡ drivers.entries ++ (name, driver) ∷ [] = put ∙ ap (λ k. insert_entry bytes_eq drivers.entries k driver) copied ∙ insert_entry-new bytes_eq drivers name driver absent in
     ap (λ (e : Drivers). record { net = net; drivers = e }) pushed ∙ ap (λ (m : Mapping). with_driver m name driver) view
 
--- the row of a table, of pins that are found
-pub answer-row : (so now : Mapping) (table : Table) (pins : List Driver) → so ≡ now → TakesTable now table → pins ≡ ascending (map (driver_named so.drivers) table.pins) → IsGate so.net.inputs (length so.net.gates) (record { cell = table.cell; pins = pins })
-answer-row so now table pins view takes found =
-    let here : TakesTable so table = subst (λ (m : Mapping). TakesTable m table) (sym view) takes in
-    subst (λ (p : List Driver). IsGate so.net.inputs (length so.net.gates) (record { cell = table.cell; pins = p })) (sym found) (gate_of-gate so table here)
+-- a table's row, of its cell and of pins that are found
+pub answer-row : (drivers : Drivers) (table : Table) (cell : Cell) (pins : List Driver) → cell ≡ cell_of table.row → pins ≡ ascending (map (driver_named drivers) table.pins) → record { cell = cell; pins = pins } ≡ gate_of drivers table
+answer-row drivers table cell pins celled found = λ j. record { cell = celled j; pins = found j }
 
--- the gate of a table, which drives its target
-pub answer-table : (entries : Drivers) (net next : GateNet) (now done : Mapping) (table : Table) (pins : List Driver) (gate : ℕ)
-    → record { net = net; drivers = entries } ≡ now → pins ≡ ascending (map (driver_named entries) table.pins)
-    → next ≡ with_gate net (record { cell = table.cell; pins = pins }) → gate ≡ gate_place (record { cell = table.cell; pins = pins }) net.gates
+-- it is a gate,
+pub answer-gate : (so now : Mapping) (table : Table) (row : GateRow) → so ≡ now → TakesTable now table → row ≡ gate_of so.drivers table → IsGate so.net.inputs (length so.net.gates) row
+answer-gate so now table row view takes is =
+    let here : TakesTable so table = subst (λ (m : Mapping). TakesTable m table) (sym view) takes in
+    subst (λ (r : GateRow). IsGate so.net.inputs (length so.net.gates) r) (sym is) (gate_of-gate so table here)
+
+-- and drives the table's target
+pub answer-table : (entries : Drivers) (net next : GateNet) (now done : Mapping) (table : Table) (row : GateRow) (gate : ℕ)
+    → record { net = net; drivers = entries } ≡ now → row ≡ gate_of entries table → next ≡ with_gate net row → gate ≡ gate_place row net.gates
     → done ≡ with_driver (record { net = next; drivers = entries }) table.target (Gate gate) → done ≡ with_table table now
-answer-table entries net next now done table pins gate view found added place driven =
+answer-table entries net next now done table row gate view is added place driven =
     driven
     ∙ ap (λ (n : GateNet). with_driver (record { net = n; drivers = entries }) table.target (Gate gate)) added
-    ∙ ap (λ (k : ℕ). with_driver (record { net = with_gate net (record { cell = table.cell; pins = pins }); drivers = entries }) table.target (Gate k)) place
-    ∙ ap (λ (p : List Driver). with_driver (record { net = with_gate net (record { cell = table.cell; pins = p }); drivers = entries }) table.target (Gate (gate_place (record { cell = table.cell; pins = p }) net.gates))) found
+    ∙ ap (λ (k : ℕ). with_driver (record { net = with_gate net row; drivers = entries }) table.target (Gate k)) place
+    ∙ ap (λ (r : GateRow). with_driver (record { net = with_gate net r; drivers = entries }) table.target (Gate (gate_place r net.gates))) is
     ∙ ap (with_table table) view
 
 -- the inputs of a plain design, mapped

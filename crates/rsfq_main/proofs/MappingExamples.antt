@@ -1,7 +1,7 @@
 -- Small designs by hand, with their gates and values by evaluation: a false definition fails here.
 use Rattle.std.proofs.Common.{◌≡◌, true, false, List, [], ◌∷◌, ℕ, codes, refl}
 use Rattle.cell_lib.specs.declared.cell.Cell.{Cell}
-use Rattle.cell_lib.specs.declared.cell.Cell.TheVariants.{Not, And, Or}
+use Rattle.cell_lib.specs.declared.cell.Cell.TheVariants.{Not, And}
 use Rattle.gate_net.specs.declared.row.Driver.{Driver}
 use Rattle.gate_net.specs.declared.row.Driver.TheVariants.{Input, Gate}
 use Rattle.gate_net.specs.declared.row.End.TheVariants.{From}
@@ -16,8 +16,12 @@ use Rattle.rsfq_main.proofs.Examples.{two_tables}
 abbrev gate : Cell → List Driver → GateRow
 gate cell pins = record { cell = cell; pins = pins }
 
-abbrev table : Cell → List (List ℕ) → List ℕ → Table
-table cell pins target = record { cell = cell; pins = pins; target = target }
+-- a table that negates its pin, and one that is the AND of its two
+abbrev not_of : List ℕ → List ℕ → Table
+not_of pin target = record { row = false ∷ []; pins = pin ∷ []; target = target }
+
+abbrev and_of : List ℕ → List ℕ → List ℕ → Table
+and_of first second target = record { row = true ∷ true ∷ []; pins = first ∷ second ∷ []; target = target }
 
 two_tables-is_circuit : is_circuit two_tables ≡ true
 unfolding is_circuit
@@ -45,8 +49,8 @@ equal_tables = record {
   inputs = codes "a" ∷ codes "b" ∷ [];
   outputs = codes "f" ∷ codes "a" ∷ [];
   tables =
-      table Not (codes "b" ∷ []) (codes "c") ∷ table Not (codes "b" ∷ []) (codes "d") ∷ table And (codes "c" ∷ codes "a" ∷ []) (codes "g")
-      ∷ table And (codes "a" ∷ codes "d" ∷ []) (codes "h") ∷ table Or (codes "h" ∷ codes "g" ∷ []) (codes "f") ∷ [];
+      not_of (codes "b") (codes "c") ∷ not_of (codes "b") (codes "d") ∷ and_of (codes "c") (codes "a") (codes "g")
+      ∷ and_of (codes "a") (codes "d") (codes "h") ∷ and_of (codes "h") (codes "g") (codes "f") ∷ [];
 }
 
 equal_tables-is_circuit : is_circuit equal_tables ≡ true
@@ -55,7 +59,7 @@ equal_tables-is_circuit = refl
 
 gates_of-equal_tables : gates_of equal_tables ≡ record {
   inputs = 2;
-  gates = gate Not (Input 1 ∷ []) ∷ gate And (Input 0 ∷ Gate 0 ∷ []) ∷ gate Or (Gate 1 ∷ Gate 1 ∷ []) ∷ [];
+  gates = gate Not (Input 1 ∷ []) ∷ gate And (Input 0 ∷ Gate 0 ∷ []) ∷ gate And (Gate 1 ∷ Gate 1 ∷ []) ∷ [];
   outputs = From (Gate 2) ∷ From (Input 0) ∷ [];
 }
 gates_of-equal_tables = refl
@@ -66,10 +70,10 @@ descending = record {
   model = codes "t";
   inputs = codes "a" ∷ codes "b" ∷ [];
   outputs = codes "f" ∷ [];
-  tables = table Or (codes "b" ∷ codes "a" ∷ []) (codes "c") ∷ table And (codes "c" ∷ codes "a" ∷ []) (codes "f") ∷ [];
+  tables = and_of (codes "b") (codes "a") (codes "c") ∷ and_of (codes "c") (codes "a") (codes "f") ∷ [];
 }
 
-gates_of-descending : gates_of descending ≡ record { inputs = 2; gates = gate Or (Input 0 ∷ Input 1 ∷ []) ∷ gate And (Input 0 ∷ Gate 0 ∷ []) ∷ []; outputs = From (Gate 1) ∷ [] }
+gates_of-descending : gates_of descending ≡ record { inputs = 2; gates = gate And (Input 0 ∷ Input 1 ∷ []) ∷ gate And (Input 0 ∷ Gate 0 ∷ []) ∷ []; outputs = From (Gate 1) ∷ [] }
 gates_of-descending = refl
 
 -- a target without a use, a pin that comes before its table, and an input that is a target too
@@ -77,10 +81,10 @@ unused : is_circuit (record two_tables { outputs = codes "c" ∷ [] }) ≡ false
 unfolding is_circuit
 unused = refl
 
-too_early : is_circuit (record two_tables { tables = table And (codes "a" ∷ codes "c" ∷ []) (codes "f") ∷ table Not (codes "b" ∷ []) (codes "c") ∷ [] }) ≡ false
+too_early : is_circuit (record two_tables { tables = and_of (codes "a") (codes "c") (codes "f") ∷ not_of (codes "b") (codes "c") ∷ [] }) ≡ false
 unfolding is_circuit
 too_early = refl
 
-driven_twice : is_circuit (record two_tables { tables = table Not (codes "b" ∷ []) (codes "a") ∷ table And (codes "a" ∷ codes "b" ∷ []) (codes "f") ∷ [] }) ≡ false
+driven_twice : is_circuit (record two_tables { tables = not_of (codes "b") (codes "a") ∷ and_of (codes "a") (codes "b") (codes "f") ∷ [] }) ≡ false
 unfolding is_circuit
 driven_twice = refl

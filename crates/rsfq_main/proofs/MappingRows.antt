@@ -1,11 +1,13 @@
 -- The row of a table: its pins in order, its place among the gates, and the netlist that has it.
-use Rattle.std.proofs.Common.{◌≡◌, ◌<◌, ◌≤◌, ◌+◌, ◌^◌, ℕ, Bool, true, false, cond, List, [], ◌∷◌, ◌++◌, length, map, refl, sym, ◌∙◌, arith, ◌⊎◌, inl, inr, ⊎_elim}
-use Rattle.std.specs.Prelude.{Option, Some, None, is_some, unwrap_or, slice_get}
+use Rattle.std.proofs.Common.{◌≡◌, ◌<◌, ◌≤◌, ◌+◌, ◌^◌, ℕ, Bool, true, false, cond, List, [], ◌∷◌, ◌++◌, length, map, refl, sym, subst, ◌∙◌, arith, ◌⊎◌, inl, inr, ⊎_elim}
+use Rattle.std.specs.Prelude.{◌≢◌, Option, Some, None, is_some, unwrap_or, slice_get}
 use Rattle.std.specs.List.{AllByRecursion}
 use Rattle.std.proofs.lemmas.List.{length_push, length-map, append-nil}
 use Rattle.std.proofs.lemmas.List.Elements.{All-from_recursion, recursion_from_All}
 use Rattle.std.proofs.lemmas.Option.{slice_get_within}
 use Rattle.std.proofs.lemmas.Bool.{cases_lt}
+use Rattle.cell_lib.specs.Cell.{arity_of}
+use Rattle.cell_lib.specs.declared.cell.Cell.TheVariants.{Dro}
 use Rattle.gate_net.specs.declared.row.Driver.{Driver}
 use Rattle.gate_net.specs.declared.row.GateRow.{GateRow}
 use Rattle.gate_net.specs.declared.net.GateNet.{GateNet}
@@ -14,7 +16,8 @@ use Rattle.gate_net.specs.Net.{IsThere, IsGate, IsGateNet, with_gate}
 use Rattle.gate_net.proofs.RowLemmas.{IsFirstPlace-from_Some, IsFirstPlace-push}
 use Rattle.gate_net.proofs.NetLemmas.{IsGateNet-push}
 use Rattle.rsfq_main.specs.declared.design.Table.{Table}
-use Rattle.rsfq_main.specs.Mapping.{Mapping, driver_named, ascending, is_before, gate_of}
+use Rattle.rsfq_main.specs.PlainRules.{HasShape}
+use Rattle.rsfq_main.specs.Mapping.{Mapping, driver_named, ascending, is_before, cell_of, gate_of}
 use Rattle.rsfq_main.specs.MappingSteps.{IsDriven, TakesTable}
 use Rattle.rsfq_main.proofs.MappingNames.{all-map}
 
@@ -50,14 +53,30 @@ all-unascending P (first ∷ second ∷ []) all = by (is_before second first) al
     by false all = all
 all-unascending P (first ∷ second ∷ third ∷ more) all = all
 
+-- The cell of a table isn't a DRO, and has as many pins as the table.
+cell_of-not_dro : (table : Table) → HasShape table → cell_of table.row ≢ Dro
+cell_of-not_dro table shape =
+    ⊎_elim {C = cell_of table.row ≢ Dro}
+    (λ zero. subst (λ (row : List Bool). cell_of row ≢ Dro) (sym zero) (λ e. cc))
+    (λ ones. subst (λ (row : List Bool). cell_of row ≢ Dro) (sym ones) (λ e. cc))
+    shape.row
+
+arity_of-cell_of : (table : Table) → HasShape table → length table.pins ≡ arity_of (cell_of table.row)
+arity_of-cell_of table shape =
+    shape.pins
+    ∙ ⊎_elim {C = length table.row ≡ arity_of (cell_of table.row)}
+    (λ zero. subst (λ (row : List Bool). length row ≡ arity_of (cell_of row)) (sym zero) refl)
+    (λ ones. subst (λ (row : List Bool). length row ≡ arity_of (cell_of row)) (sym ones) refl)
+    shape.row
+
 -- A table that may be added has a gate as its row.
 pub gate_of-gate : (so : Mapping) (table : Table) → TakesTable so table → IsGate so.net.inputs (length so.net.gates) (gate_of so.drivers table)
 gate_of-gate so table takes =
     let pins = map (driver_named so.drivers) table.pins in
     let there : AllByRecursion (IsThere so.net.inputs (length so.net.gates)) pins = all-map (IsThere so.net.inputs (length so.net.gates)) (driver_named so.drivers) table.pins (recursion_from_All (IsDriven so) table.pins takes.pins) in
     record {
-      not_dro = takes.shape.not_dro;
-      arity = length-ascending pins ∙ length-map table.pins (driver_named so.drivers) ∙ takes.shape.arity;
+      not_dro = cell_of-not_dro table takes.shape;
+      arity = length-ascending pins ∙ length-map table.pins (driver_named so.drivers) ∙ arity_of-cell_of table takes.shape;
       drivers = All-from_recursion (IsThere so.net.inputs (length so.net.gates)) (ascending pins) (all-ascending (IsThere so.net.inputs (length so.net.gates)) pins there);
     }
 

@@ -1,10 +1,10 @@
 -- The gates of a plain design have the values of its tables: each signal's value is that of its driver, as gates are added.
-use Rattle.std.proofs.Common.{◌≡◌, ◌<◌, ◌+◌, ℕ, Bool, true, false, cond, List, [], ◌∷◌, ◌++◌, length, map, get_or, take, refl, sym, ap, subst, ◌∙◌}
+use Rattle.std.proofs.Common.{◌≡◌, ◌<◌, ◌+◌, ℕ, Bool, true, false, cond, List, [], ◌∷◌, ◌++◌, length, map, get_or, take, refl, sym, ap, subst, ◌∙◌, ⊎_elim}
 use Rattle.std.specs.Prelude.{Some, slice_get, slice_index_or}
 use Rattle.std.specs.List.{AllByRecursion, list_all}
 use Rattle.std.specs.Map.{keys_of}
 use Rattle.std.specs.Str.{bytes_eq}
-use Rattle.std.proofs.lemmas.List.{get_or-take, get_or-map, map-append}
+use Rattle.std.proofs.lemmas.List.{length-map, get_or-take, get_or-map, map-append}
 use Rattle.std.proofs.lemmas.List.Elements.{All-from_recursion, recursion_from_All}
 use Rattle.std.proofs.lemmas.Option.{slice_get_within, get_or_from_slice_get}
 use Rattle.std.proofs.lemmas.Bool.{and_parts}
@@ -21,9 +21,9 @@ use Rattle.gate_net.specs.Values.{per_gate, driver_value, gate_value, end_value}
 use Rattle.gate_net.proofs.ValueLemmas.{get_or-per_gate, take-per_gate-append}
 use Rattle.rsfq_main.specs.declared.design.Table.{Table}
 use Rattle.rsfq_main.specs.DesignValues as design_values
-use Rattle.rsfq_main.specs.DesignValues.{Values, value_named, input_values, table_value, output_value}
-use Rattle.rsfq_main.specs.PlainRules.{Names, is_among, is_table, are_tables, drivers_of}
-use Rattle.rsfq_main.specs.Mapping.{Mapping, Drivers, driver_named, is_before, ascending, input_drivers, gate_of, with_table, with_tables, inputs_alone, mapping_of, gates_of}
+use Rattle.rsfq_main.specs.DesignValues.{Values, value_named, input_values, row_matches, table_value, output_value}
+use Rattle.rsfq_main.specs.PlainRules.{Names, HasShape, is_among, is_table, are_tables, drivers_of}
+use Rattle.rsfq_main.specs.Mapping.{Mapping, Drivers, driver_named, is_before, ascending, input_drivers, cell_of, gate_of, with_table, with_tables, inputs_alone, mapping_of, gates_of}
 use Rattle.rsfq_main.specs.MappingLaws.{GatesKeepValues}
 use Rattle.rsfq_main.specs.MappingSteps.{TakesTable, TakesTables}
 use Rattle.rsfq_main.proofs.MappingNames.{all-from_test, all-weaker, map-same, lookup-made}
@@ -63,6 +63,35 @@ value-ascending cell f (first ∷ second ∷ []) = by (is_before second first)
     by true = turned cell (f first) (f second)
     by false = refl
 value-ascending cell f (first ∷ second ∷ third ∷ more) = refl
+
+-- The row `0` matches one pin where its NOT is true, and the row `11` two where their AND is.
+row_matches-zero : (row values : List Bool) → row ≡ false ∷ [] → length values ≡ length row → row_matches row values ≡ cell_value (cell_of row) values
+row_matches-zero row values is as_many = subst (λ (row : List Bool). length values ≡ length row → row_matches row values ≡ cell_value (cell_of row) values) (sym is) (by values) as_many
+  where
+    by : (values : List Bool) → length values ≡ 1 → row_matches (false ∷ []) values ≡ cell_value Not values
+    by [] few = cc
+    by (true ∷ []) one = refl
+    by (false ∷ []) one = refl
+    by (a ∷ b ∷ values) many = cc
+
+row_matches-ones : (row values : List Bool) → row ≡ true ∷ true ∷ [] → length values ≡ length row → row_matches row values ≡ cell_value (cell_of row) values
+row_matches-ones row values is as_many = subst (λ (row : List Bool). length values ≡ length row → row_matches row values ≡ cell_value (cell_of row) values) (sym is) (by values) as_many
+  where
+    by : (values : List Bool) → length values ≡ 2 → row_matches (true ∷ true ∷ []) values ≡ cell_value And values
+    by [] few = cc
+    by (a ∷ []) few = cc
+    by (true ∷ true ∷ []) two = refl
+    by (true ∷ false ∷ []) two = refl
+    by (false ∷ b ∷ []) two = refl
+    by (a ∷ b ∷ c ∷ values) many = cc
+
+-- So the row of a plain design's table matches exactly where the table's cell is true.
+row_matches-cell : (table : Table) (values : List Bool) → HasShape table → length values ≡ length table.pins → row_matches table.row values ≡ cell_value (cell_of table.row) values
+row_matches-cell table values shape as_many =
+    ⊎_elim {C = row_matches table.row values ≡ cell_value (cell_of table.row) values}
+    (λ zero. row_matches-zero table.row values zero (as_many ∙ shape.pins))
+    (λ ones. row_matches-ones table.row values ones (as_many ∙ shape.pins))
+    shape.row
 
 module _ (bits : List Bool) where
   -- the values of these gates over a row
@@ -123,7 +152,13 @@ module _ (bits : List Bool) where
       (all-weaker (IsThere so.net.inputs (length gates)) (λ driver. driver_value bits (values_by next.net.gates) driver ≡ dv driver)
       (λ driver there. ap (λ rows. driver_value bits (values_by rows) driver) (with_row-added row gates) ∙ driver-more so.net.inputs gates (added row gates) driver there)
       row.pins (recursion_from_All (IsThere so.net.inputs (length gates)) row.pins there)) in
-      ap (cell_value table.cell) pins ∙ sym (value-ascending table.cell dv (map dn table.pins)) ∙ sym (ap (cell_value table.cell) kept) ∙ sym here
+      let cell = cell_of table.row in
+      let as_many : length (map dv (map dn table.pins)) ≡ length table.pins = length-map (map dn table.pins) dv ∙ length-map table.pins dn in
+      ap (row_matches table.row) pins
+      ∙ row_matches-cell table (map dv (map dn table.pins)) takes.shape as_many
+      ∙ sym (value-ascending cell dv (map dn table.pins))
+      ∙ sym (ap (cell_value cell) kept)
+      ∙ sym here
     where
       pins-valued : (so : Mapping) (names : Names) → keys_of so.drivers ≡ names → (pins : Names) → list_all (λ pin. is_among pin names) pins ≡ true → map (value_named (valued so.net.gates so.drivers)) pins ≡ map (driver_value bits (values_by so.net.gates)) (map (driver_named so.drivers) pins)
       pins-valued so names named [] e = refl

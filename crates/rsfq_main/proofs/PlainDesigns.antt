@@ -1,5 +1,6 @@
--- What is read of a plain text is a plain design: a circuit of few inputs, outputs and tables, each table of its cell's shape.
-use Rattle.std.proofs.Common.{◌≡◌, ◌≤◌, ℕ, zero, suc, Bool, true, false, List, [], length, Option, Some, None, IfSome, All, codes, bytes_eq, refl, arith, if◌then◌else◌}
+-- What is read of a plain text is a plain design: a circuit of few inputs, outputs and tables, each table with the row `0` or
+-- `11`, and a pin for each bit.
+use Rattle.std.proofs.Common.{◌≡◌, ◌≤◌, ℕ, zero, suc, Bool, true, false, List, [], length, Option, Some, None, IfSome, All, codes, bytes_eq, refl, arith, inl, inr, if◌then◌else◌}
 use Rattle.std.proofs.lemmas.List.Elements.{All-nil, All-cons}
 use Rattle.rsfq_main.specs.declared.design.Design.{Design}
 use Rattle.rsfq_main.specs.declared.design.Table.{Table}
@@ -51,7 +52,7 @@ name_line_at-few keyword text =
     (λ rest. then_by (AreFew MAX_PLAIN_NAMES) (names_at MAX_PLAIN_NAMES rest) _ (names_at-few MAX_PLAIN_NAMES rest)
     (λ names few. tested_all (AreFew MAX_PLAIN_NAMES) _ names (λ some. few)))
 
--- a table before a rest, with its cell's shape
+-- a table before a rest, with such a row and such pins
 abbrev IsShaped : Table × List ℕ → Type 0
 IsShaped table = HasShape table.0
 
@@ -63,10 +64,10 @@ table_at-shaped text =
     (λ second. either_all IsShaped (after (codes "\n0 1\n") second.1) _ _
     (then_all IsShaped (further_name_at second.1) _
     (λ third. then_all IsShaped (after (codes "\n11 1\n") third.1) _
-    (λ rest. record { not_dro = λ dro. cc; arity = refl })))
-    (λ rest. record { not_dro = λ dro. cc; arity = refl })))
+    (λ rest. record { row = inr refl; pins = refl })))
+    (λ rest. record { row = inl refl; pins = refl })))
 
--- tables, so many at most, each with its cell's shape
+-- tables, so many at most, each with such a row and such pins
 record AreShaped (most : ℕ) (tables : List Table) : Type 0 where
   few : length tables ≤ most
   shapes : All HasShape tables

@@ -1,8 +1,7 @@
 -- The values of a design's signals over one row of input bits, table by table.
-use Rattle.std.specs.Prelude.{ℕ, ◌+◌, Bool, false, List, [], ◌∷◌, ◌++◌, map, slice_index_or, unwrap_or}
+use Rattle.std.specs.Prelude.{ℕ, ◌+◌, Bool, true, false, not, ◌&&◌, List, [], ◌∷◌, ◌++◌, map, slice_index_or, unwrap_or}
 use Rattle.std.specs.Map.{lookup}
 use Rattle.std.specs.Str.{bytes_eq}
-use Rattle.cell_lib.specs.Cell.{cell_value}
 use Rattle.rsfq_main.specs.declared.design.Design.{Design}
 use Rattle.rsfq_main.specs.declared.design.Table.{Table}
 
@@ -19,9 +18,16 @@ abbrev pub input_values : List Bool → ℕ → List (List ℕ) → Values
 input_values bits place [] = []
 input_values bits place (name ∷ names) = (name, slice_index_or bits place false) ∷ input_values bits (place + 1) names
 
--- the value of a table, over the values of its pins
+-- a row matches where each 1 of it stands at a true pin and each 0 at a false one
+abbrev pub row_matches : List Bool → List Bool → Bool
+row_matches [] [] = true
+row_matches (true ∷ row) (value ∷ values) = value && row_matches row values
+row_matches (false ∷ row) (value ∷ values) = not value && row_matches row values
+row_matches row values = false
+
+-- the value of a table: its one row has output 1, so it is true exactly where that row matches
 abbrev pub table_value : Values → Table → Bool
-table_value values table = cell_value table.cell (map (value_named values) table.pins)
+table_value values table = row_matches table.row (map (value_named values) table.pins)
 
 -- the targets of tables have the tables' values
 abbrev pub with_tables : Values → List Table → Values

@@ -2,6 +2,8 @@
 use Rattle.std.specs.Prelude.{ℕ, ◌+◌, ◌≤◌, Bool, true, false, nat_lt, cond, List, [], ◌∷◌, ◌++◌, length, map, unwrap_or}
 use Rattle.std.specs.Map.{lookup}
 use Rattle.std.specs.Str.{bytes_eq}
+use Rattle.cell_lib.specs.declared.cell.Cell.{Cell}
+use Rattle.cell_lib.specs.declared.cell.Cell.TheVariants.{Not, And}
 use Rattle.gate_net.specs.declared.row.Driver.{Driver}
 use Rattle.gate_net.specs.declared.row.Driver.TheVariants.{Input, Gate}
 use Rattle.gate_net.specs.declared.row.End.TheVariants.{From}
@@ -40,9 +42,14 @@ ascending (first ∷ []) = first ∷ []
 ascending (first ∷ second ∷ []) = cond (is_before second first) (second ∷ first ∷ []) (first ∷ second ∷ [])
 ascending (first ∷ second ∷ third ∷ more) = first ∷ second ∷ third ∷ more
 
+-- the cell that is true exactly where a row matches: NOT for the row `0`, AND for `11`
+abbrev pub cell_of : List Bool → Cell
+cell_of (false ∷ []) = Not
+cell_of row = And
+
 -- the gate of a table
 abbrev pub gate_of : Drivers → Table → GateRow
-gate_of drivers table = record { cell = table.cell; pins = ascending (map (driver_named drivers) table.pins) }
+gate_of drivers table = record { cell = cell_of table.row; pins = ascending (map (driver_named drivers) table.pins) }
 
 -- the gates so far, and the drivers of the signals so far
 pub record Mapping : Type 0 where

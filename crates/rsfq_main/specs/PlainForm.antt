@@ -1,10 +1,9 @@
 -- The plain form of a BLIF text: which lines it has, and the design that they spell.
 -- A part of the text is read from its front, and comes with the text after it; None where the front is of another form.
-use Rattle.std.specs.Prelude.{ℕ, zero, suc, Bool, ◌&&◌, ◌||◌, ◌==◌, nat_le, List, [], ◌∷◌, ◌++◌, length, drop, take, Option, Some, None, if◌then◌else◌, codes}
+use Rattle.std.specs.Prelude.{ℕ, zero, suc, Bool, true, false, ◌&&◌, ◌||◌, ◌==◌, nat_le, List, [], ◌∷◌, ◌++◌, length, drop, take, Option, Some, None, if◌then◌else◌, codes}
 use Rattle.std.specs.List.{take_while}
 use Rattle.std.specs.Str.{bytes_eq}
 use Rattle.net_base.specs.declared.name.TheConstants.{MAX_NAME_BYTES}
-use Rattle.cell_lib.specs.declared.cell.Cell.TheVariants.{Not, And}
 use Rattle.rsfq_main.specs.declared.design.Design.{Design}
 use Rattle.rsfq_main.specs.declared.design.Table.{Table}
 use Rattle.rsfq_main.specs.declared.plain.TheConstants.{MAX_PLAIN_NAMES, MAX_PLAIN_TABLES}
@@ -57,9 +56,9 @@ table_at text =
     further_name_at text >>= λ first.
     further_name_at first.1 >>= λ second.
     elim (after (codes "\n0 1\n") second.1) [
-      | Some rest ↦ Some (record { cell = Not; pins = first.0 ∷ []; target = second.0 }, rest)
+      | Some rest ↦ Some (record { row = false ∷ []; pins = first.0 ∷ []; target = second.0 }, rest)
       | None ↦ (further_name_at second.1 >>= λ third. after (codes "\n11 1\n") third.1 >>= λ rest.
-          Some (record { cell = And; pins = first.0 ∷ second.0 ∷ []; target = third.0 }, rest))
+          Some (record { row = true ∷ true ∷ []; pins = first.0 ∷ second.0 ∷ []; target = third.0 }, rest))
     ]
 
 -- the end line, and nothing after it

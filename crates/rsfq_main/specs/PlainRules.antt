@@ -1,9 +1,7 @@
 -- What the signals of a plain design keep to. A driver is an input or a table's target, a use is a pin or an output.
-use Rattle.std.specs.Prelude.{◌≡◌, ◌≢◌, ◌≤◌, ℕ, Bool, true, not, ◌&&◌, List, [], ◌∷◌, ◌++◌, length, map, All, Option, Some, None}
+use Rattle.std.specs.Prelude.{◌≡◌, ◌≤◌, ◌⊎◌, ℕ, Bool, true, false, not, ◌&&◌, List, [], ◌∷◌, ◌++◌, length, map, All, Option, Some, None}
 use Rattle.std.specs.List.{list_any, list_all, flat_map}
 use Rattle.std.specs.Str.{bytes_eq}
-use Rattle.cell_lib.specs.Cell.{arity_of}
-use Rattle.cell_lib.specs.declared.cell.Cell.TheVariants.{Dro}
 use Rattle.rsfq_main.specs.declared.design.Design.{Design}
 use Rattle.rsfq_main.specs.declared.design.Table.{Table}
 use Rattle.rsfq_main.specs.declared.plain.TheConstants.{MAX_PLAIN_NAMES, MAX_PLAIN_TABLES}
@@ -53,10 +51,10 @@ is_circuit design =
     && list_all (λ output. is_among output (drivers_of design)) design.outputs
     && list_all (λ table. is_among table.target (uses_of design)) design.tables
 
--- a table has as many pins as its cell, which is no DRO
+-- a table has the row `0` or `11`, and as many pins as its row has bits
 pub record HasShape (table : Table) : Type 0 where
-  pub not_dro : table.cell ≢ Dro
-  pub arity : length table.pins ≡ arity_of table.cell
+  pub row : (table.row ≡ false ∷ []) ⊎ (table.row ≡ true ∷ true ∷ [])
+  pub pins : length table.pins ≡ length table.row
 
 -- what the steps behind the reader use of a plain design
 pub record IsPlain (design : Design) : Type 0 where

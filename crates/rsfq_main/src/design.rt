@@ -1,13 +1,12 @@
 //! A design: what a BLIF text says, by the names that stand in it.
 
-use cell_lib::Cell;
 use net_base::{List, Name};
 
-/// A table of a design: its target is the cell's value over its pins.
+/// A table of a design: its target is true exactly where its one row matches the pins.
 #[derive(Debug, Drop)]
 pub struct Table {
-    /// The cell whose values the table has.
-    pub cell: Cell,
+    /// The bit that the row has at each pin, from the left.
+    pub row: List<bool>,
     /// The signals that it reads, in the order of the text.
     pub pins: List<Name>,
     /// The signal that it drives.

@@ -13,6 +13,7 @@ ghost use Rattle.rsfq_main.specs.MappingLaws.{GatesKeepValues};
 ghost use Rattle.rsfq_main.specs.MappingSteps.{IsNew, IsDriven, TakesInputs, TakesTable, TakesTables, nothing_mapped, with_driver, with_inputs};
 
 use crate::design::{Design, Table};
+use cell_lib::Cell;
 use gate_net::{Driver, End, GateNet};
 use indexmap::IndexMap;
 use net_base::{List, Name, NoMemory};
@@ -72,7 +73,9 @@ impl Mapper {
         ensures { OnOk result (self.new ≡ spec.with_table table.now self.old) }
     {
         let drivers = drivers_of(alloc, &self.drivers, table.pins.as_slice())?;
-        let gate = self.net.gate(table.cell, ascending(drivers))?;
+        let gate = self
+            .net
+            .gate(cell_of(table.row.as_slice()), ascending(drivers))?;
         self.drive(&table.target, Driver::Gate(gate))
     }
 
@@ -175,6 +178,16 @@ fn drivers_of(
         found.push(driver_named(drivers, pin))?;
     }
     Ok(found)
+}
+
+// The cell that is true exactly where a row matches.
+fn cell_of(row: &[bool]) -> Cell
+    ensures { result ≡ spec.cell_of row.now }
+{
+    match row {
+        [false] => Cell::Not,
+        _ => Cell::And,
+    }
 }
 
 // Whether a driver comes before another: inputs before gates, each in order.

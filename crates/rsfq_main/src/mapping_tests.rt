@@ -1,13 +1,11 @@
 //! A small design with equal tables, mapped.
 
-ghost use Rattle.std.specs.Prelude.{◌≡◌, [], ◌∷◌, IfOk};
+ghost use Rattle.std.specs.Prelude.{◌≡◌, [], ◌∷◌, true, false, IfOk};
 ghost use Rattle.net_base.specs.Name.{IsNameByte};
-ghost use Rattle.cell_lib.specs.declared.cell.Cell.TheVariants as cells;
 ghost use Rattle.rsfq_main.specs.PlainRules.{IsPlain};
 
 use crate::design::{Design, Table};
 use crate::mapping::gates_of;
-use cell_lib::Cell;
 use gate_net::{Driver, End};
 use net_base::{List, Name, NoMemory};
 use std::alloc::Global;
@@ -39,13 +37,32 @@ fn two(alloc: Global, first: u8, second: u8) -> Result<List<Name>, NoMemory>
     Ok(names)
 }
 
+// The row `0`.
+fn zero(alloc: Global) -> Result<List<bool>, NoMemory>
+    ensures { IfOk result (λ row. row ≡ false ∷ []) }
+{
+    let mut row = List::new(alloc);
+    row.push(false)?;
+    Ok(row)
+}
+
+// The row `11`.
+fn ones(alloc: Global) -> Result<List<bool>, NoMemory>
+    ensures { IfOk result (λ row. row ≡ true ∷ true ∷ []) }
+{
+    let mut row = List::new(alloc);
+    row.push(true)?;
+    row.push(true)?;
+    Ok(row)
+}
+
 fn inverter(alloc: Global, pin: u8, target: u8) -> Result<Table, NoMemory>
     requires pin { IsNameByte pin }
     requires target { IsNameByte target }
-    ensures { IfOk result (λ table. table ≡ record { cell = cells.Not; pins = (pin ∷ []) ∷ []; target = target ∷ [] }) }
+    ensures { IfOk result (λ table. table ≡ record { row = false ∷ []; pins = (pin ∷ []) ∷ []; target = target ∷ [] }) }
 {
     Ok(Table {
-        cell: Cell::Not,
+        row: zero(alloc)?,
         pins: one(alloc, pin)?,
         target: name(alloc, target)?,
     })
@@ -59,7 +76,7 @@ fn twins(alloc: Global) -> Result<Design, NoMemory>
     tables.push(inverter(alloc, b'a', b'c')?)?;
     tables.push(inverter(alloc, b'a', b'd')?)?;
     tables.push(Table {
-        cell: Cell::And,
+        row: ones(alloc)?,
         pins: two(alloc, b'c', b'b')?,
         target: name(alloc, b'f')?,
     })?;

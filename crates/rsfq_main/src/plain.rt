@@ -3,10 +3,9 @@
 //! Each function reads one part of the text from its front, and answers what the definition of its name in
 //! `specs/PlainForm.antt` reads there. So the text is looked at once, byte by byte, and no line is kept.
 
-ghost use Rattle.std.specs.Prelude.{◌≡◌, ◌∷◌, [], Some, IfOk};
+ghost use Rattle.std.specs.Prelude.{◌≡◌, ◌∷◌, [], true, false, Some, IfOk};
 ghost use Rattle.std.specs.Option.{option_copied};
 ghost use Rattle.std.specs.List.{prefix_len};
-ghost use Rattle.cell_lib.specs.declared.cell.Cell.TheVariants.{Not, And};
 ghost use Rattle.rsfq_main.specs.PlainForm as form;
 ghost use Rattle.rsfq_main.specs.PlainReading.{Gives};
 ghost use Rattle.rsfq_main.specs.PlainRules.{IsPlain};
@@ -14,7 +13,6 @@ ghost use Rattle.rsfq_main.specs.declared.plain.PlainFault.TheVariants.{NoMemory
 
 use crate::circuit::is_circuit;
 use crate::design::{Design, Table};
-use cell_lib::Cell;
 use net_base::{List, MAX_NAME_BYTES, Name};
 use std::alloc::{AllocError, AllocFailed, Global};
 
@@ -154,31 +152,28 @@ fn name_line_at<'a>(
     Ok((names, rest))
 }
 
-// A table with one pin.
+// A table of the row `0`.
 fn not_table(alloc: Global, pin: Name, target: Name) -> Result<Table, PlainFault>
-    ensures { Gives (λ table. table) result (Some (record { cell = Not; pins = pin ∷ []; target = target })) }
+    ensures { Gives (λ table. table) result (Some (record { row = false ∷ []; pins = pin ∷ []; target = target })) }
 {
+    let mut row = List::new(alloc);
+    row.push(false)?;
     let mut pins = List::new(alloc);
     pins.push(pin)?;
-    Ok(Table {
-        cell: Cell::Not,
-        pins,
-        target,
-    })
+    Ok(Table { row, pins, target })
 }
 
-// A table with two pins.
+// A table of the row `11`.
 fn and_table(alloc: Global, first: Name, second: Name, target: Name) -> Result<Table, PlainFault>
-    ensures { Gives (λ table. table) result (Some (record { cell = And; pins = first ∷ second ∷ []; target = target })) }
+    ensures { Gives (λ table. table) result (Some (record { row = true ∷ true ∷ []; pins = first ∷ second ∷ []; target = target })) }
 {
+    let mut row = List::new(alloc);
+    row.push(true)?;
+    row.push(true)?;
     let mut pins = List::new(alloc);
     pins.push(first)?;
     pins.push(second)?;
-    Ok(Table {
-        cell: Cell::And,
-        pins,
-        target,
-    })
+    Ok(Table { row, pins, target })
 }
 
 #[tactic(auto, unfolding(crate::specs::PlainForm::table_at))]

@@ -1,7 +1,6 @@
-use Rattle.std.proofs.Common.{◌≡◌, true, List, [], ◌∷◌, ℕ, refl, sym, subst, codes, arith}
+use Rattle.std.proofs.Common.{◌≡◌, true, false, List, [], ◌∷◌, ℕ, refl, sym, subst, codes, arith, inl, inr}
 use Rattle.std.proofs.lemmas.List.Elements.{All-from_recursion}
 use Rattle.std.specs.List.{AllByRecursion}
-use Rattle.cell_lib.specs.declared.cell.Cell.TheVariants.{Not, And}
 use Rattle.rsfq_main.specs.declared.design.Design.{Design}
 use Rattle.rsfq_main.specs.declared.design.Table.{Table}
 use Rattle.rsfq_main.specs.PlainRules.{IsPlain, HasShape, is_circuit}
@@ -15,8 +14,8 @@ outputs = codes "f" ∷ codes "d" ∷ []
 
 abbrev tables : List Table
 tables =
-    record { cell = Not; pins = codes "a" ∷ []; target = codes "c" } ∷ record { cell = Not; pins = codes "a" ∷ []; target = codes "d" }
-    ∷ record { cell = And; pins = codes "c" ∷ codes "b" ∷ []; target = codes "f" } ∷ []
+    record { row = false ∷ []; pins = codes "a" ∷ []; target = codes "c" } ∷ record { row = false ∷ []; pins = codes "a" ∷ []; target = codes "d" }
+    ∷ record { row = true ∷ true ∷ []; pins = codes "c" ∷ codes "b" ∷ []; target = codes "f" } ∷ []
 
 abbrev named : List ℕ → Design
 named model = record { model = model; inputs = inputs; outputs = outputs; tables = tables }
@@ -26,7 +25,7 @@ unfolding is_circuit
 named-circuit model = refl
 
 tables-shapes : AllByRecursion HasShape tables
-tables-shapes = (record { not_dro = λ e. cc; arity = refl }, (record { not_dro = λ e. cc; arity = refl }, (record { not_dro = λ e. cc; arity = refl }, tt)))
+tables-shapes = (record { row = inl refl; pins = refl }, (record { row = inl refl; pins = refl }, (record { row = inr refl; pins = refl }, tt)))
 
 named-plain : (model : List ℕ) → IsPlain (named model)
 named-plain model = record {
@@ -45,4 +44,4 @@ plain-from_parts design i o t =
 pub returns : goal.returns
 returns c =
     plain-from_parts _ c.in_ok-two-2.ensures c.in_ok-two-3.ensures
-    (rw (c.in_ok-push-3.ensures.ok, c.in_ok-push-2.ensures.ok, c.in_ok-push.ensures.ok, c.new-tables.ensures, c.in_ok-inverter.ensures, c.in_ok-inverter-2.ensures, c.in_ok-two.ensures, c.in_ok-name.ensures) refl)
+    (rw (c.in_ok-push-3.ensures.ok, c.in_ok-push-2.ensures.ok, c.in_ok-push.ensures.ok, c.new-tables.ensures, c.in_ok-inverter.ensures, c.in_ok-inverter-2.ensures, c.in_ok-ones.ensures, c.in_ok-two.ensures, c.in_ok-name.ensures) refl)
