@@ -2,6 +2,9 @@ pub mod PlainNames
 pub mod PlainLoops
 pub mod PlainExits
 pub mod PlainDesigns
+pub mod PlainTextNames
+pub mod PlainTextTables
+pub mod PlainTexts
 pub mod CircuitNames
 pub mod PhaseWords
 pub mod MappingNames

@@ -1,6 +1,7 @@
 pub mod Words
 pub mod PlainForm
 pub mod PlainRules
+pub mod PlainText
 pub mod PlainReading
 pub mod DesignValues
 pub mod Mapping

@@ -6,7 +6,7 @@ ghost use Rattle.rsfq_main.specs.PlainForm.{plain_design};
 ghost use Rattle.rsfq_main.specs.Map.{Maps};
 
 use crate::netlist::netlist_of;
-use crate::plain::{PlainFault, plain_design as read_design};
+use crate::plain::{PlainFault, plain_design as read_design, plain_texts_are_spelled};
 use crate::spelling::spelling_of;
 use std::alloc::Global;
 
@@ -18,6 +18,8 @@ pub fn map(alloc: Global, text: &[u8], phases: u32) -> Result<Vec<u8>, PlainFaul
     ensures mapped { IfOk result (λ bytes. Maps phases text.now bytes.items) }
     ensures refused { IsErrOf result PlainFault.NotPlain → plain_design text.now ≡ None }
 {
+    // What the reader accepts, said apart from it: the texts of the form are the texts of its designs.
+    plain_texts_are_spelled();
     let design = read_design(alloc, text)?;
     let net = netlist_of(alloc, design, phases)?;
     let netlist = spelling_of(alloc, &net)?;

@@ -9,6 +9,7 @@ ghost use Rattle.std.specs.List.{prefix_len};
 ghost use Rattle.rsfq_main.specs.PlainForm as form;
 ghost use Rattle.rsfq_main.specs.PlainReading.{Gives};
 ghost use Rattle.rsfq_main.specs.PlainRules.{IsPlain};
+ghost use Rattle.rsfq_main.specs.PlainText.{PlainTextsAreSpelled};
 ghost use Rattle.rsfq_main.specs.declared.plain.PlainFault.TheVariants.{NoMemory};
 
 use crate::circuit::is_circuit;
@@ -255,3 +256,9 @@ pub fn plain_design(alloc: Global, text: &[u8]) -> Result<Design, PlainFault>
         Err(PlainFault::NotPlain)
     }
 }
+
+/// A text is of the plain form exactly where it is the one text of a design of the form, and this is the design that it
+/// spells.
+pub fn plain_texts_are_spelled()
+    ensures { PlainTextsAreSpelled }
+{}
