@@ -1,5 +1,5 @@
 -- The words of the command line.
-use Rattle.std.specs.Prelude.{ℕ, zero, suc, List, [], ◌∷◌, ◌++◌, Option, Some, None, option_map, if◌then◌else◌, codes, decimal}
+use Rattle.std.specs.Prelude.{◌≡◌, ◌≤◌, ℕ, zero, suc, List, [], ◌∷◌, ◌++◌, Option, Some, None, option_map, if◌then◌else◌, codes, decimal}
 use Rattle.std.specs.Str.{bytes_eq}
 use Rattle.pulse_net.specs.declared.net.TheConstants.{MAX_PHASES}
 use Rattle.rsfq_main.specs.declared.words.Command.{Command}
@@ -9,6 +9,12 @@ use Rattle.rsfq_main.specs.declared.words.Command.TheVariants.{Map}
 unfoldable pub phases_in : ℕ → List ℕ → Option ℕ
 phases_in zero word = None
 phases_in (suc most) word = if bytes_eq word (codes "phases=" ++ decimal (suc most)) then Some (suc most) else phases_in most word
+
+-- the word gives n phases: the key and n in decimal, n from 1 to 16
+pub record GivesPhases (word : List ℕ) (n : ℕ) : Type 0 where
+  pub spelled : word ≡ codes "phases=" ++ decimal n
+  pub some : 1 ≤ n
+  pub few : n ≤ MAX_PHASES
 
 -- the command that the words spell: `map` with one phase, or `map phases=N`, N from 1 to 16
 unfoldable pub command_of : List (List ℕ) → Option Command

@@ -1,6 +1,6 @@
 //! The words of the command line, read by hand.
 
-ghost use Rattle.std.specs.Prelude.{◌≡◌, ◌++◌, ◌≤◌, ℕ, Some, map, string_bytes, codes, decimal, IfSome};
+ghost use Rattle.std.specs.Prelude.{◌≡◌, ◌++◌, ◌≤◌, ◌↔◌, ℕ, Some, map, string_bytes, codes, decimal};
 ghost use Rattle.std.specs.Str.{bytes_eq};
 ghost use Rattle.rsfq_main.specs.Words as spec;
 ghost use Rattle.rsfq_main.specs.declared.words.Command.TheVariants.{Map};
@@ -28,7 +28,7 @@ fn gives_phases(word: &[u8], phases: u32) -> bool
 // The number of phases that the word gives. Each number is tried in its one decimal spelling, so no digits are parsed.
 fn phases_in(word: &[u8]) -> Option<u32>
     ensures phases { result ≡ spec.phases_in MAX_PHASES word.now }
-    ensures range { IfSome result (λ phases. (1 ≤ phases) × (phases ≤ MAX_PHASES)) }
+    ensures given { (n : ℕ) → result ≡ Some n ↔ spec.GivesPhases word.now n }
 {
     let mut most = MAX_PHASES;
     while most > 0 {
