@@ -7,7 +7,9 @@
 //!
 //! Promised by `chains`: these needs, lengths and stages, with the gates and the latency as they were given (`value`);
 //! `TooManyDros` exactly where the DRO count is above `MAX_DROS`, with the count (`fits`, `refused`), unless memory
-//! fails. Not promised: that the epochs are the best, nor, without `HasChains`, that the chains balance anything.
+//! fails. `can_chain` tells exactly where it may be called: the netlist has a network, there is an epoch for each gate,
+//! and each stage and the latency in ticks fit 32 bits.
+//! Not promised: that the epochs are the best, nor, without `HasChains`, that the chains balance anything.
 //!
 //! Read `specs/Chains.antt` from `chained_of`. `chain_length` and `dro_count` are those of the network's epochs. That a
 //! need is also the gap in stages over n, rounded up, less 1, is the law `gaps_agree` on phases.

@@ -46,3 +46,38 @@ fn are_pins_balanced(epochs: &Epochs, pins: &[Pin]) -> bool
 {
     pins.iter().all(|pin| is_pin_balanced(epochs, pin))
 }
+
+#[cfg(test)]
+mod tests {
+    use super::*;
+    use net_base::List;
+    use std::test::Fail;
+
+    // A gate in the first epoch reads the one input. The sink reads the gate, and the input too.
+    #[test]
+    fn the_sink_is_balanced_from_one_epoch_behind_the_gate_on(rt: HostRuntime) -> Result<(), Fail> {
+        let alloc = rt.alloc();
+        let pin = |driver: u32, from: u32, to: u32| Pin {
+            driver,
+            from,
+            to,
+            weight: 1,
+        };
+        let late = pin(0, 0, 2);
+        let net = Net {
+            gates: 1,
+            drivers: 2,
+            pins: List::from_vec([pin(0, 0, 1), pin(1, 1, 2), late].to_vec(alloc)?),
+        };
+        // The sink, whether that is balanced, and what the input needs on its way there.
+        for (sink, wanted, dros) in [(1u32, false, 0u32), (2, true, 1), (3, true, 2)] {
+            let epochs = Epochs {
+                gates: List::from_vec([1u32].to_vec(alloc)?),
+                sink,
+            };
+            assert_eq!(rt; is_balanced(&net, &epochs), wanted, "{sink}");
+            assert_eq!(rt; need(&epochs, &late), dros, "{sink}");
+        }
+        Ok(())
+    }
+}

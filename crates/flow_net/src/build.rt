@@ -158,7 +158,6 @@ pub fn net_of(alloc: Global, net: &GateNet, phases: &List<u32>) -> Result<Net, N
 #[cfg(test)]
 mod tests {
     use super::*;
-    use crate::{Epochs, is_balanced, need};
     use cell_lib::Cell;
     use gate_net::End;
     use std::test::Fail;
@@ -199,20 +198,6 @@ mod tests {
         ];
         assert_eq!(rt; [net.gates, net.drivers], [3u32, 4]);
         assert_eq!(rt; net.pins.as_slice(), wanted.as_slice());
-        let early = Epochs {
-            gates: List::from_vec([1u32, 2, 3].to_vec(alloc)?),
-            sink: 4,
-        };
-        assert!(rt; is_balanced(&net, &early));
-        assert_eq!(rt;
-            [need(&early, &wanted[1]), need(&early, &wanted[4])],
-            [1u32, 2]
-        );
-        let late = Epochs {
-            gates: List::from_vec([1u32, 2, 3].to_vec(alloc)?),
-            sink: 3,
-        };
-        assert!(rt; !is_balanced(&net, &late));
         Ok(())
     }
 }

@@ -6,12 +6,13 @@
 //!
 //! Promised: `net_of` answers `network_of` (`value`), and the numbers of its vertices fit (`few`); `pin_count` and
 //! `is_balanced` are the tests of its conditions; `need` is the gap in epochs less the weight. The only refusal is
-//! `NoMemory`.
+//! `NoMemory`. With phases from levels the earliest epochs, each gate's level over n and the sink 1 behind the last
+//! driver of an output, are balanced (`earliest_epochs_are_balanced`).
 //! Not promised: that epochs are the best. `dro_count` says what they cost: for each driver the largest need of its
 //! pins, since they all tap one chain.
 //!
 //! Read `specs/Uses.antt` and `specs/Network.antt` for the network, `specs/Epochs.antt` for `IsBalanced` and
-//! `dro_count`, and `specs/Flows.antt` for full flows and the value of a flow.
+//! `dro_count`, and `specs/Flows.antt` for full flows and the value of a flow. Central proof: `proofs/Earliest.antt`.
 #![tactic(auto)]
 
 mod balance;
