@@ -11,15 +11,15 @@ use Rattle.gate_net.specs.declared.row.Driver.TheVariants.{Gate}
 use Rattle.gate_net.specs.declared.row.GateRow.{GateRow}
 use Rattle.gate_net.specs.Rows.{gate_place}
 use Rattle.gate_net.specs.declared.net.GateNet.{GateNet}
-use Rattle.gate_net.specs.Net.{IsGate, IsGateNet, with_gate}
+use Rattle.gate_net.specs.Net.{IsGate, IsGateNet, bare_net, with_gate}
 use Rattle.std.specs.Map.{keys_of}
 use Rattle.rsfq_main.specs.declared.design.Design.{Design}
 use Rattle.rsfq_main.specs.declared.design.Table.{Table}
 use Rattle.rsfq_main.specs.PlainRules.{Names, IsPlain, are_new}
-use Rattle.rsfq_main.specs.Mapping.{Mapping, Drivers, driver_named, ascending, cell_of, gate_of, with_table, inputs_alone, mapping_of, with_outputs, gates_of, IsMapped}
-use Rattle.rsfq_main.specs.MappingSteps.{IsNew, IsDriven, TakesInputs, TakesTable, TakesTables, nothing_mapped, with_driver, with_inputs}
+use Rattle.rsfq_main.specs.Mapping.{Mapping, Drivers, driver_named, ascending, cell_of, gate_of, with_table, input_drivers, inputs_alone, mapping_of, with_outputs, gates_of, IsMapped}
+use Rattle.rsfq_main.specs.MappingSteps.{IsNew, IsDriven, TakesInputs, TakesTable, TakesTables, with_driver}
 use Rattle.rsfq_main.proofs.MappingRows.{gate_of-gate}
-use Rattle.rsfq_main.proofs.MappingPlain.{keeps_rules, takes-inputs, inputs_alone-is, plain-takes, plain-sound}
+use Rattle.rsfq_main.proofs.MappingPlain.{keeps_rules, takes-inputs, plain-takes, plain-sound}
 use Rattle.rsfq_main.proofs.MappingSteps.{same-outputs}
 use Rattle.rsfq_main.proofs.MappingUsed.{outputs-driven, plain-mapped}
 
@@ -55,14 +55,16 @@ answer-table entries net next now done table row gate view is added place driven
     ∙ ap (with_table table) view
 
 -- the inputs of a plain design, mapped
-pub answer-inputs_takes : (design : Design) → IsPlain design → (so : Mapping) (count : ℕ) (inputs : Names) → so ≡ nothing_mapped count → inputs ≡ design.inputs → TakesInputs so 0 inputs
+pub answer-inputs_takes : (design : Design) → IsPlain design → (so : Mapping) (count : ℕ) (inputs : Names) → so ≡ record { net = bare_net count; drivers = [] } → inputs ≡ design.inputs → TakesInputs so 0 inputs
 answer-inputs_takes design plain so count inputs start same =
     subst (λ (names : Names). TakesInputs so 0 names) (sym same)
     (takes-inputs so 0 design.inputs (ap (λ (m : Mapping). are_new (keys_of m.drivers) design.inputs) start ∙ (keeps_rules design plain.circuit).inputs))
 
-pub answer-inputs : (design : Design) (so new : Mapping) (count : ℕ) (inputs : Names) → new ≡ with_inputs 0 inputs so → so ≡ nothing_mapped count → count ≡ length design.inputs → inputs ≡ design.inputs → new ≡ inputs_alone design
+pub answer-inputs : (design : Design) (so new : Mapping) (count : ℕ) (inputs : Names) → new ≡ record so { drivers = so.drivers ++ input_drivers 0 inputs } → so ≡ record { net = bare_net count; drivers = [] } → count ≡ length design.inputs → inputs ≡ design.inputs → new ≡ inputs_alone design
 answer-inputs design so new count inputs made start counted same =
-    made ∙ ap (λ (m : Mapping). with_inputs 0 inputs m) (start ∙ ap nothing_mapped counted) ∙ ap (λ (names : Names). with_inputs 0 names (nothing_mapped (length design.inputs))) same ∙ inputs_alone-is design
+    made
+    ∙ ap (λ (m : Mapping). record m { drivers = m.drivers ++ input_drivers 0 inputs }) start
+    ∙ (λ j. record { net = bare_net (counted j); drivers = input_drivers 0 (same j) })
 
 pub answer-tables_takes : (design : Design) → IsPlain design → (so : Mapping) (tables : List Table) → so ≡ inputs_alone design → tables ≡ design.tables → TakesTables so tables
 answer-tables_takes design plain so tables start same =

@@ -1,10 +1,10 @@
 -- What a plain design keeps to, part by part, and its inputs mapped.
-use Rattle.std.proofs.Common.{◌≡◌, ◌≤◌, ◌+◌, ℕ, true, not, List, [], ◌∷◌, ◌++◌, length, refl, sym, ap, ◌∙◌, arith, append_assoc}
+use Rattle.std.proofs.Common.{◌≡◌, ◌≤◌, ◌+◌, ℕ, true, not, List, [], ◌∷◌, ◌++◌, length, refl, ap, ◌∙◌, arith}
 use Rattle.std.specs.Prelude.{◌&&◌}
 use Rattle.std.specs.List.{AllByRecursion, list_all}
 use Rattle.std.specs.Map.{keys_of}
 use Rattle.std.specs.Str.{bytes_eq}
-use Rattle.std.proofs.lemmas.List.{append-nil, map-append}
+use Rattle.std.proofs.lemmas.List.{map-append}
 use Rattle.std.proofs.lemmas.List.Elements.{All-nil, recursion_from_All}
 use Rattle.std.proofs.lemmas.Bool.{and_parts, not-true}
 use Rattle.gate_net.specs.declared.row.Driver.{Driver}
@@ -13,7 +13,7 @@ use Rattle.gate_net.specs.Net.{IsThere, IsEndThere, IsGateNet, bare_net}
 use Rattle.rsfq_main.specs.declared.design.Design.{Design}
 use Rattle.rsfq_main.specs.PlainRules.{Names, IsPlain, HasShape, is_among, are_new, are_tables, is_circuit, drivers_of, uses_of}
 use Rattle.rsfq_main.specs.Mapping.{Mapping, input_drivers, inputs_alone, mapping_of}
-use Rattle.rsfq_main.specs.MappingSteps.{IsNew, TakesInputs, TakesTables, nothing_mapped, with_driver, with_inputs}
+use Rattle.rsfq_main.specs.MappingSteps.{IsNew, TakesInputs, TakesTables, with_driver}
 use Rattle.rsfq_main.proofs.MappingNames.{lookup-absent}
 use Rattle.rsfq_main.proofs.MappingSteps.{IsSound, takes-tables, sound-tables}
 
@@ -38,7 +38,7 @@ keeps_rules design e =
     let first = and_parts inputs tables second.0 in
     record { inputs = first.0; tables = first.1; driven = third.1; used = last.1 }
 
--- Inputs that are new may be taken in order,
+-- Inputs that are new may be taken in order.
 pub takes-inputs : (so : Mapping) (place : ℕ) (inputs : Names) → are_new (keys_of so.drivers) inputs ≡ true → TakesInputs so place inputs
 takes-inputs so place [] e = tt
 takes-inputs so place (name ∷ inputs) e =
@@ -47,16 +47,7 @@ takes-inputs so place (name ∷ inputs) e =
     let keys : keys_of (with_driver so name (Input place)).drivers ≡ keys_of so.drivers ++ name ∷ [] = map-append (λ (entry : List ℕ × Driver). entry.0) so.drivers ((name, Input place) ∷ []) in
     (new, takes-inputs (with_driver so name (Input place)) (place + 1) inputs (ap (λ names. are_new names inputs) keys ∙ parts.1))
 
--- and come behind the drivers so far.
-pub with_inputs-is : (place : ℕ) (inputs : Names) (so : Mapping) → with_inputs place inputs so ≡ record so { drivers = so.drivers ++ input_drivers place inputs }
-with_inputs-is place [] so = ap (λ drivers. record so { drivers = drivers }) (sym (append-nil so.drivers))
-with_inputs-is place (name ∷ inputs) so =
-    with_inputs-is (place + 1) inputs (with_driver so name (Input place))
-    ∙ ap (λ drivers. record so { drivers = drivers }) (append_assoc so.drivers ((name, Input place) ∷ []) (input_drivers (place + 1) inputs))
-
-pub inputs_alone-is : (design : Design) → with_inputs 0 design.inputs (nothing_mapped (length design.inputs)) ≡ inputs_alone design
-inputs_alone-is design = with_inputs-is 0 design.inputs (nothing_mapped (length design.inputs))
-
+-- They are the signals that have drivers then.
 keys-inputs : (place : ℕ) (inputs : Names) → keys_of (input_drivers place inputs) ≡ inputs
 keys-inputs place [] = refl
 keys-inputs place (name ∷ inputs) = ap (λ names. name ∷ names) (keys-inputs (place + 1) inputs)

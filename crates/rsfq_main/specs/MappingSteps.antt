@@ -4,23 +4,14 @@ use Rattle.std.specs.Map.{lookup}
 use Rattle.std.specs.Str.{bytes_eq}
 use Rattle.gate_net.specs.declared.row.Driver.{Driver}
 use Rattle.gate_net.specs.declared.row.Driver.TheVariants.{Input}
-use Rattle.gate_net.specs.Net.{IsThere, IsGateNet, bare_net}
+use Rattle.gate_net.specs.Net.{IsThere, IsGateNet}
 use Rattle.rsfq_main.specs.declared.design.Table.{Table}
 use Rattle.rsfq_main.specs.PlainRules.{HasShape}
 use Rattle.rsfq_main.specs.Mapping.{Mapping, driver_named, with_table}
 
--- before the first input
-abbrev pub nothing_mapped : ℕ → Mapping
-nothing_mapped inputs = record { net = bare_net inputs; drivers = [] }
-
 -- a signal gets its driver
 abbrev pub with_driver : Mapping → List ℕ → Driver → Mapping
 with_driver so name driver = record so { drivers = so.drivers ++ (name, driver) ∷ [] }
-
--- inputs from a place on get their drivers
-abbrev pub with_inputs : ℕ → List (List ℕ) → Mapping → Mapping
-with_inputs place [] so = so
-with_inputs place (name ∷ names) so = with_inputs (place + 1) names (with_driver so name (Input place))
 
 -- the signal has no driver yet
 abbrev pub IsNew : Mapping → List ℕ → Type 0

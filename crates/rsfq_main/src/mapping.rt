@@ -4,13 +4,13 @@
 //! linear in the names of the design.
 
 ghost use Rattle.std.specs.Prelude.{◌≡◌, ◌<◌, ◌^◌, ◌+◌, [], ◌++◌, map, length, All, IfOk, OnOk};
-ghost use Rattle.gate_net.specs.Net.{IsGateNet, IsThere};
+ghost use Rattle.gate_net.specs.Net.{IsGateNet, IsThere, bare_net};
 ghost use Rattle.gate_net.specs.declared.row.End.TheVariants as ends;
 ghost use Rattle.rsfq_main.specs.PlainRules.{IsPlain};
 ghost use Rattle.rsfq_main.specs.Mapping as spec;
 ghost use Rattle.rsfq_main.specs.Mapping.{IsMapped};
 ghost use Rattle.rsfq_main.specs.MappingLaws.{GatesKeepValues};
-ghost use Rattle.rsfq_main.specs.MappingSteps.{IsNew, IsDriven, TakesInputs, TakesTable, TakesTables, nothing_mapped, with_driver, with_inputs};
+ghost use Rattle.rsfq_main.specs.MappingSteps.{IsNew, IsDriven, TakesInputs, TakesTable, TakesTables, with_driver};
 
 use crate::design::{Design, Table};
 use cell_lib::Cell;
@@ -38,7 +38,7 @@ impl Model for Mapper {
 impl Mapper {
     // No signal has a driver.
     fn new(alloc: Global, inputs: u32) -> Mapper
-        ensures { result ≡ nothing_mapped inputs }
+        ensures { result ≡ record { net = bare_net inputs; drivers = [] } }
     {
         Mapper {
             net: GateNet::new(alloc, inputs),
@@ -59,7 +59,7 @@ impl Mapper {
     fn pass_inputs(&mut self, inputs: &[Name]) -> Result<(), NoMemory>
         requires takes { TakesInputs self.old 0 inputs.now }
         requires few { length inputs.now < 2 ^ 31 }
-        ensures { OnOk result (self.new ≡ with_inputs 0 inputs.now self.old) }
+        ensures { OnOk result (self.new ≡ record self.old { drivers = self.old.drivers ++ spec.input_drivers 0 inputs.now }) }
     {
         for (place, input) in inputs.iter().enumerate() {
             self.drive(input, Driver::Input(place as u32))?;
