@@ -1,5 +1,5 @@
 -- What the netlist of a design means, put together from the laws of the layers.
-use Rattle.std.proofs.Common.{◌≡◌, ℕ, List, [], ◌∷◌, refl, sym, ap, subst, ◌∙◌}
+use Rattle.std.proofs.Common.{◌≡◌, ℕ, List, refl, sym, ap, subst, ◌∙◌}
 use Rattle.std.specs.Prelude.{Result, Ok, Err, IfOk, slice_index_or}
 use Rattle.std.proofs.lemmas.List.{length-map}
 use Rattle.gate_net.specs.declared.row.End.TheVariants.{Zero, From}
@@ -16,22 +16,17 @@ use Rattle.pulse_net.specs.GatePulses.{UnfoldedPulses}
 use Rattle.splitters.specs.Elements.{elements_of}
 use Rattle.splitters.specs.Laws.{ChainsAreValid, ChainsUnfold, HasNames}
 use Rattle.rsfq_main.specs.declared.design.Design.{Design}
-use Rattle.rsfq_main.specs.declared.design.Table.{Table}
 use Rattle.rsfq_main.specs.PlainRules.{IsPlain}
-use Rattle.rsfq_main.specs.Mapping.{Mapping, with_table, with_tables, inputs_alone, mapping_of, driver_named, gates_of}
+use Rattle.rsfq_main.specs.Mapping.{inputs_alone, mapping_of, driver_named, gates_of}
 use Rattle.rsfq_main.specs.MappingLaws.{GatesKeepValues}
 use Rattle.rsfq_main.specs.Clocking.{clocked, HasClock}
 use Rattle.rsfq_main.specs.Netlist.{names_of, netlist_of, Means}
-
--- tables add no inputs
-with_tables-inputs : (tables : List Table) (so : Mapping) → (with_tables tables so).net.inputs ≡ so.net.inputs
-with_tables-inputs [] so = refl
-with_tables-inputs (table ∷ tables) so = with_tables-inputs tables (with_table table so)
+use Rattle.rsfq_main.proofs.MappingSteps.{same-inputs}
 
 -- the design has a name for each input and each output
 pub has_names : (n : ℕ) (design : Design) → HasNames (clocked n (gates_of design)) (names_of design)
 has_names n design = record {
-  inputs = sym (with_tables-inputs design.tables (inputs_alone design));
+  inputs = sym (same-inputs design.tables (inputs_alone design));
   outputs = sym (length-map design.outputs (λ (output : List ℕ). From (driver_named (mapping_of design).drivers output)));
 }
 
