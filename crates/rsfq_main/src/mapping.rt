@@ -190,24 +190,12 @@ fn cell_of(row: &[bool]) -> Cell
     }
 }
 
-// Whether a driver comes before another: inputs before gates, each in order.
-fn is_before(first: Driver, second: Driver) -> bool
-    ensures { result ≡ spec.is_before first second }
-{
-    match (first, second) {
-        (Driver::Input(i), Driver::Input(j)) => i < j,
-        (Driver::Input(_), Driver::Gate(_)) => true,
-        (Driver::Gate(_), Driver::Input(_)) => false,
-        (Driver::Gate(i), Driver::Gate(j)) => i < j,
-    }
-}
-
-// Two pins in ascending order of their drivers.
+// Two pins in ascending order of their drivers, inputs before gates.
 fn ascending(pins: List<Driver>) -> List<Driver>
     ensures { result ≡ spec.ascending pins }
 {
     let mut pins = pins.into_vec();
-    if pins.len() == 2 && is_before(pins[1], pins[0]) {
+    if pins.len() == 2 && pins[1] < pins[0] {
         pins.swap(0, 1);
     }
     List::from_vec(pins)
