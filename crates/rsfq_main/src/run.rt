@@ -70,10 +70,7 @@ fn answer<S: Source, K: Sink>(
         Err(PlainFault::NotPlain) => return Err(Fault::Refused(Refusal::NotYet)),
         Err(PlainFault::NoMemory) => return Err(Fault::NoMemory),
     };
-    match write_all_of(sink, netlist.as_slice()) {
-        Ok(()) => Ok(()),
-        Err(_) => Err(Fault::Write),
-    }
+    write_all_of(sink, netlist.as_slice()).map_err(|_| Fault::Write)
 }
 
 /// Does all that the program does: reads the command from the words, the text from the source, writes the output to
