@@ -7,9 +7,9 @@
 //! Promised by `run`: the bytes that it writes are those of the text's netlist, whole on Done and a proper front of them
 //! on WriteFault (`written`); on Done they spell a valid netlist with the design's names, on which for every list of input
 //! rows the value read at each output is the value of the text's tables (`meant`); right words, a text of the form and no
-//! counted fault give Done, or NoMemory (`complete`). Each status has its cause (`usage`, `read_fault`, `refused`,
-//! `write_fault`, `no`), and leaves the source (`left`, `unread`), the sink (`unwritten`, `appended`) and the notes
-//! (`silent`, `noted`) as it says.
+//! counted fault or stall give Done, or NoMemory (`complete`). Each status has its cause (`usage`, `read_fault`,
+//! `refused`, `write_fault`, `no`), and leaves the source (`left`, `unread`), the sink (`unwritten`, `appended`) and the
+//! notes (`silent`, `noted`) as it says.
 //! Not promised: that no fewer DROs would do, since the gates have their earliest epochs; and that memory suffices.
 //!
 //! Read `specs/Run.antt`, then `specs/Words.antt` (the words), `specs/PlainForm.antt` and `specs/PlainRules.antt` (the
