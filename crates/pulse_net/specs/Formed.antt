@@ -1,5 +1,5 @@
 -- What a netlist is made of, before any rule on its wires.
-use Rattle.std.specs.Prelude.{◌≡◌, ◌≤◌, ℕ, length, All, ⊤, slice_index_or}
+use Rattle.std.specs.Prelude.{◌≡◌, ◌≤◌, ℕ, Bool, true, false, length, All, ⊤, slice_index_or}
 use Rattle.cell_lib.specs.Cell.{arity_of}
 use Rattle.pulse_net.specs.declared.net.Element.{Element}
 use Rattle.pulse_net.specs.declared.net.Element.TheVariants.{Clocked, Split}
@@ -12,6 +12,11 @@ use Rattle.pulse_net.specs.declared.net.TheConstants.{MAX_PHASES}
 abbrev pub HasItsPins : Element → Type 0
 HasItsPins (Clocked cell stage pins out) = length pins ≡ arity_of cell
 HasItsPins (Split from left right) = ⊤
+
+-- whether an element is a splitter
+abbrev pub is_splitter : Element → Bool
+is_splitter (Clocked cell stage pins out) = false
+is_splitter (Split from left right) = true
 
 -- a netlist is formed: 1 to 16 phases, a latency of at least 1, each cell has its pins, and each input and output has its name
 pub record IsFormed (net : PulseNet) : Type 0 where

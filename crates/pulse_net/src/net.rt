@@ -1,6 +1,7 @@
 //! A netlist: inputs, elements in order, outputs, all joined by numbered wires.
 
-ghost use Rattle.std.specs.Prelude.{◌≡◌, ◌<◌, ◌+◌, ◌*◌, ◌^◌, length};
+ghost use Rattle.std.specs.Prelude.{◌≡◌, ◌<◌, ◌≤◌, ◌+◌, ◌^◌, length, count_by};
+ghost use Rattle.pulse_net.specs.Formed.{is_splitter};
 
 use cell_lib::Cell;
 use net_base::{List, Name};
@@ -77,8 +78,26 @@ impl PulseNet {
     pub(crate) fn most_wires(&self) -> usize
         requires few_inputs { length self.now.inputs < 2 ^ 31 }
         requires few_elements { length self.now.elements < 2 ^ 31 }
-        ensures { result ≡ length self.now.inputs + 2 * length self.now.elements }
+        ensures { result ≡ length self.now.inputs + length self.now.elements + count_by is_splitter self.now.elements }
     {
-        self.inputs.len() + 2 * self.elements.len()
+        self.inputs.len() + self.elements.len() + splitters(self.elements.as_slice())
     }
+}
+
+/// How many splitters there are.
+fn splitters(elements: &[Element]) -> usize
+    ensures count { result ≡ count_by is_splitter elements.now }
+    ensures few { result ≤ length elements.now }
+{
+    elements
+        .iter()
+        .filter(|element| is_splitter(element))
+        .count()
+}
+
+/// Whether an element is a splitter.
+fn is_splitter(element: &Element) -> bool
+    ensures { result ≡ is_splitter element.now }
+{
+    matches!(element, Element::Split { .. })
 }
