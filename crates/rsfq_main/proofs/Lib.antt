@@ -1,7 +1,6 @@
 pub mod PlainNames
 pub mod PlainLoops
 pub mod PlainExits
-pub mod PlainDesigns
 pub mod PlainTextNames
 pub mod PlainTextTables
 pub mod PlainTexts

@@ -6,7 +6,7 @@
 use Rattle.std.proofs.Common.{◌≡◌, ◌≤◌, List, [], ◌∷◌, ◌++◌, length, Some, IfSome, All, ℕ, flat_map, codes, refl, sym, ap, ◌∙◌, append_assoc}
 use Rattle.rsfq_main.specs.declared.design.Design.{Design}
 use Rattle.rsfq_main.specs.declared.plain.TheConstants.{MAX_PLAIN_TABLES}
-use Rattle.rsfq_main.specs.PlainRules.{is_circuit, HasShape}
+use Rattle.rsfq_main.specs.PlainRules.{is_circuit, HasShape, IsPlain}
 use Rattle.rsfq_main.specs.PlainForm.{name_line_at, tables_of, model_line_at, lines_of, plain_design}
 use Rattle.rsfq_main.specs.PlainText.{line_of, table_text, text_of, IsPlainName, ArePlainNames, HasPlainNames, IsPlainDesign, PlainTextsAreSpelled}
 use Rattle.rsfq_main.proofs.PlainTextNames.{then_by, tested_by, model_line_at_is, model_line_at_line, name_line_at_is, name_line_at_line}
@@ -90,3 +90,15 @@ plain_design_text design is =
 pub plain_texts_are_spelled : PlainTextsAreSpelled
 plain_texts_are_spelled text design =
     (λ reads. let read = rw reads at (plain_design_is text) in (read.spelling, read.plain), λ is. ap plain_design is.0 ∙ plain_design_text design is.1)
+
+-- So a text of the form spells a design that the steps behind the reader may take.
+pub plain_is_plain : (text : List ℕ) (design : Design) → plain_design text ≡ Some design → IsPlain design
+plain_is_plain text design spells =
+    let is = ((plain_texts_are_spelled text design).0 spells).1 in
+    record {
+      circuit = is.circuit;
+      shapes = is.shapes;
+      few_inputs = is.inputs.few;
+      few_outputs = is.outputs.few;
+      few_tables = is.few_tables;
+    }

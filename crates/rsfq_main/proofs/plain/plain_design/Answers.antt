@@ -1,6 +1,6 @@
 use Rattle.std.proofs.Common.{refl}
 use Rattle.rsfq_main.specs.PlainForm.{plain_design}
-use Rattle.rsfq_main.proofs.PlainDesigns.{plain_is_plain}
+use Rattle.rsfq_main.proofs.PlainTexts.{plain_is_plain}
 use Rattle.rsfq_main.proofs.plain.plain_design.Goals as goal
 
 pub returns-then-branch-clause-plain : goal.returns-then-branch-clause-plain
