@@ -1,10 +1,10 @@
 -- Steps of a layout: a tap where the chain goes on, and how many pins gates have.
-use Rattle.std.proofs.Common.{◌≡◌, ◌≤◌, ◌<◌, ℕ, zero, suc, ◌+◌, List, [], ◌∷◌, length, get_or, set, drop, refl, arith, add-one, drop-cons, length-append}
+use Rattle.std.proofs.Common.{◌≡◌, ◌≤◌, ◌<◌, ℕ, zero, suc, ◌+◌, List, [], ◌∷◌, length, get_or, drop, refl, arith, length-append}
 use Rattle.std.specs.List.{flat_map}
 use Rattle.gate_net.specs.declared.row.GateRow.{GateRow}
 use Rattle.gate_net.specs.declared.net.GateNet.{GateNet}
 use Rattle.gate_net.specs.Net.{pin_drivers, end_drivers}
-use Rattle.splitters.specs.Elements.{Layout, take_wires, with_last, with_tap, with_dro, with_chain, gate_pins}
+use Rattle.splitters.specs.Elements.{Layout, with_tap, with_dro, with_chain, gate_pins}
 
 -- A tap that is not the last of its chain.
 pub with_chain-goes_on : (n stage wire : ℕ) (taps : List (List ℕ)) (layout : Layout) (k : ℕ) → suc k < length taps →

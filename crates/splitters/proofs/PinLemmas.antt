@@ -1,13 +1,11 @@
 -- The drivers of pins are there, and inputs have wires.
-use Rattle.std.proofs.Common.{◌≡◌, ◌≤◌, ◌<◌, ◌+◌, ◌-◌, ℕ, zero, suc, Bool, true, false, cond, List, [], ◌∷◌, ◌++◌, All, Option, Some, None, length, get_or, refl, ap, sym, ◌∙◌, append_assoc, arith}
-use Rattle.std.proofs.lemmas.List.Elements.{All-nil, All-cons, All-append, All-head, All-tail, All-weaker}
+use Rattle.std.proofs.Common.{◌≡◌, ◌≤◌, ◌<◌, ◌+◌, ◌-◌, ℕ, suc, Bool, true, false, cond, List, [], ◌∷◌, ◌++◌, All, Option, Some, None, length, get_or, ap, sym, ◌∙◌, append_assoc, arith}
+use Rattle.std.proofs.lemmas.List.Elements.{All-nil, All-append, All-weaker}
 use Rattle.std.specs.List.{flat_map}
 use Rattle.gate_net.specs.declared.row.Driver.TheVariants.{Input}
-use Rattle.gate_net.specs.declared.row.End.{End}
-use Rattle.gate_net.specs.declared.row.End.TheVariants.{Zero, One, From}
 use Rattle.gate_net.specs.declared.row.GateRow.{GateRow}
 use Rattle.gate_net.specs.declared.net.GateNet.{GateNet}
-use Rattle.gate_net.specs.Net.{IsThere, IsEndThere, IsGateNet, end_drivers, pin_drivers}
+use Rattle.gate_net.specs.Net.{IsThere, IsGateNet, end_drivers, pin_drivers}
 use Rattle.gate_net.proofs.NetLemmas.{IsThere-more}
 use Rattle.flow_net.proofs.UseLemmas.{All-end_drivers}
 use Rattle.dro_chains.specs.declared.chain.Chained.{Chained}

@@ -1,21 +1,18 @@
 -- The netlist of chains unfolds to the gates that the chains were made for, with their phases, epochs and DROs.
 use Rattle.std.proofs.Common.{◌≡◌, ◌<◌, ℕ, zero, suc, ◌+◌, ◌/◌, ◌%◌, List, [], ◌∷◌, length, get_or, map, replicate, All, refl, ap, subst, ◌∙◌, arith}
-use Rattle.std.proofs.lemmas.List.{length-replicate, length_push}
+use Rattle.std.proofs.lemmas.List.{length-replicate}
 use Rattle.std.proofs.lemmas.List.Elements.{All-head, All-tail}
 use Rattle.std.proofs.Math.Nat.{mul_comm}
 use Rattle.std.proofs.lemmas.Nat.{div-mul-add, mod-mul-add}
 use Rattle.std.specs.Prelude.{flat_map, slice_index}
-use Rattle.cell_lib.specs.declared.cell.Cell.TheVariants.{Dro, Not, And, Or, Xor}
 use Rattle.gate_net.specs.declared.row.Driver.{Driver}
 use Rattle.gate_net.specs.declared.row.End.{End}
 use Rattle.gate_net.specs.declared.row.End.TheVariants.{Zero, One, From}
 use Rattle.gate_net.specs.declared.row.GateRow.{GateRow}
 use Rattle.gate_net.specs.Net.{IsGate, IsGateNet, EachGateIsUsed, pin_drivers, end_drivers}
 use Rattle.phase_rule.specs.Stages.{stage_of}
-use Rattle.pulse_net.specs.declared.net.Element.{Element}
-use Rattle.pulse_net.specs.declared.net.Element.TheVariants.{Clocked, Split}
 use Rattle.pulse_net.specs.Wires.{Wires}
-use Rattle.pulse_net.specs.Unfolding.{Unfolding, driver_of, dro_driver, end_of, phases_of, epochs_of, nothing_unfolded, unfold_element, unfold_elements, unfold_inputs, unfolding_of}
+use Rattle.pulse_net.specs.Unfolding.{Unfolding, end_of, phases_of, epochs_of, nothing_unfolded, unfold_inputs, unfolding_of}
 use Rattle.pulse_net.proofs.Dros.{unfolds_its_dros}
 use Rattle.flow_net.specs.Network.{network_of}
 use Rattle.flow_net.specs.Epochs.{dro_count}

@@ -1,7 +1,7 @@
 -- A chain: each tap spreads a wire, its pins wait with their wires, and a DRO goes on n stages later.
 use Rattle.std.proofs.Common.{◌≡◌, ◌≤◌, ◌<◌, ℕ, zero, suc, ◌+◌, ◌-◌, ◌*◌, max, Bool, true, false, cond, ◌&&◌, ◌||◌, ◌==◌, List, [], ◌∷◌, ◌++◌, length, get_or, drop, refl, ap, sym, subst, ◌∙◌, arith}
-use Rattle.std.proofs.lemmas.Bool.{true≢false, eqb-true, or_left, or_right}
-use Rattle.std.specs.Prelude.{Some, ⊤, slice_index}
+use Rattle.std.proofs.lemmas.Bool.{true≢false, eqb-true}
+use Rattle.std.specs.Prelude.{Some, slice_index}
 use Rattle.std.proofs.Math.Nat.{mul-suc}
 use Rattle.cell_lib.specs.declared.cell.Cell.TheVariants.{Dro}
 use Rattle.gate_net.specs.declared.row.Driver.{Driver}
@@ -11,9 +11,9 @@ use Rattle.pulse_net.specs.declared.net.Element.TheVariants.{Clocked}
 use Rattle.pulse_net.specs.Wires.{Wires, found}
 use Rattle.splitters.specs.Spread.{spread_lines, spread_wires}
 use Rattle.splitters.specs.Elements.{Layout, take_wires, with_cell, with_last, with_tap, with_dro, with_chain}
-use Rattle.splitters.specs.Taps.{with_pin, takers, tap_count, taps_from, taps_at}
+use Rattle.splitters.specs.Taps.{takers, tap_count, taps_from, taps_at}
 use Rattle.splitters.proofs.Trees.{length-spread_wires}
-use Rattle.splitters.proofs.WiredCounts.{once, times, after, after-append, nat_eq-other, nat_eq-differs}
+use Rattle.splitters.proofs.WiredCounts.{once, times, after, after-append}
 use Rattle.splitters.proofs.Takers.{DrivesNone, takers-late, takers-last, below, below-from, below-true}
 use Rattle.splitters.proofs.WiredFrontier.{IsLaid, IsLaid-waits, IsLaid-cell, IsSpread, IsSpread-tree}
 use Rattle.splitters.proofs.WiredPins.{Marks, held, AreStaged, Agree, Agree-all, held-agree, AreStaged-agree, AreStaged-stay, and_tap, IsNew, times-held, AreStaged-held, length-taken}

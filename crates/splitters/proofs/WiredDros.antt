@@ -1,5 +1,5 @@
 -- How many DROs are laid out: a chain has one for each tap behind its first, and neither splitters nor gates are DROs.
-use Rattle.std.proofs.Common.{◌≡◌, ◌≢◌, ℕ, zero, suc, ◌+◌, ◌-◌, ◌*◌, Bool, true, false, cond, max, ◌||◌, List, [], ◌∷◌, ◌++◌, length, get_or, take, drop, refl, ap, subst, ◌∙◌, arith}
+use Rattle.std.proofs.Common.{◌≡◌, ◌≢◌, ℕ, zero, suc, ◌+◌, ◌-◌, ◌*◌, Bool, true, false, cond, max, ◌||◌, List, [], ◌∷◌, ◌++◌, length, get_or, take, drop, refl, subst, ◌∙◌, arith}
 use Rattle.std.specs.Prelude.{Some, None, slice_index}
 use Rattle.std.specs.List.{list_any}
 use Rattle.std.proofs.lemmas.Bool.{true≢false}
@@ -16,7 +16,7 @@ use Rattle.pulse_net.specs.Dros.{is_dro, dros}
 use Rattle.dro_chains.specs.declared.chain.Chained.{Chained}
 use Rattle.splitters.specs.Spread.{first_half, tree_lines, spread_lines}
 use Rattle.splitters.specs.Elements.{Layout, tap_wires, with_tap, with_dro, with_chain, input_wires, with_inputs, with_cell, with_gate, with_gates, inputs_of, empty_layout}
-use Rattle.splitters.specs.Taps.{tap_count, taps_from, taps_of, is_used, input_dros, gate_dros}
+use Rattle.splitters.specs.Taps.{tap_count, taps_of, is_used, input_dros, gate_dros}
 use Rattle.splitters.specs.Laws.{DrosAreTheChains}
 use Rattle.splitters.proofs.TapLemmas.{length-taps_from}
 use Rattle.splitters.proofs.WiredGates.{AreGatesFrom}

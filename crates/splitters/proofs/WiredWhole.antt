@@ -3,9 +3,8 @@ use Rattle.std.proofs.Common.{◌≡◌, ◌≤◌, ◌<◌, ℕ, suc, ◌+◌, 
 use Rattle.std.proofs.lemmas.Bool.{true≢false, lt-ltb, le-ltb, or_left, or_right}
 use Rattle.std.proofs.lemmas.List.{append-nil, length-replicate}
 use Rattle.std.proofs.lemmas.List.Elements.{All-nil, All-head, All-tail}
-use Rattle.std.proofs.lemmas.Map.Keys.{IsDistinct-cons, IsDistinct-from_apart}
 use Rattle.std.specs.Prelude.{Option, ⊤, flat_map, option_to_list}
-use Rattle.std.specs.List.{list_any, IsDistinct, AllByRecursion}
+use Rattle.std.specs.List.{list_any}
 use Rattle.std.specs.Cmp.{nat_eq_equiv}
 use Rattle.gate_net.specs.declared.row.Driver.{Driver}
 use Rattle.gate_net.specs.declared.row.Driver.TheVariants.{Input, Gate}
@@ -17,13 +16,13 @@ use Rattle.pulse_net.specs.declared.net.Names.{Names}
 use Rattle.pulse_net.specs.Formed.{HasItsPins}
 use Rattle.pulse_net.specs.Wires.{Wires, element_uses, outlet_uses, input_stage, uses_of, input_wires as made_inputs}
 use Rattle.pulse_net.specs.Wired.{makes_of, OutletsInTime, IsWired}
-use Rattle.pulse_net.specs.Validity.{is_among, has_wire}
+use Rattle.pulse_net.specs.Validity.{has_wire}
 use Rattle.pulse_net.proofs.Unbroken.{unbroken}
 use Rattle.dro_chains.specs.declared.chain.Chained.{Chained}
 use Rattle.splitters.specs.Elements.{wire_count, with_inputs, gate_pins, outlets, inputs_of, empty_layout, layout_of, elements_of}
 use Rattle.splitters.specs.Taps.{with_pin, tap_count}
 use Rattle.splitters.specs.Laws.{tap_stage, PinsInTime, KeepsTime, LayoutIsValid}
-use Rattle.splitters.proofs.WiredCounts.{once, times, times-append, run, run-split, after, AreFound, once-same, distinct-once, among-times, times-among}
+use Rattle.splitters.proofs.WiredCounts.{times, times-append, run, run-split, after, AreFound, once-same, distinct-once, among-times, times-among}
 use Rattle.splitters.proofs.WiredPins.{Marks, held, AreStaged, Agree}
 use Rattle.splitters.proofs.Takers.{DrivesNone}
 use Rattle.splitters.proofs.WiredChains.{Stands, Stands-agree, by_driver, tap_count-late}

@@ -36,8 +36,9 @@ GatesInTime chained gate pin [] = ⊤
 GatesInTime chained gate pin (row ∷ rows) =
     PinsInTime chained (slice_index chained.stages gate) pin row.pins × GatesInTime chained (gate + 1) (pin + length row.pins) rows
 
--- Gates with shared chains keep time: each gate has a use, and each pin takes from its tap 1 to n ticks before its gate,
--- or before the reading, at stage n * E; and where there is no pin, the latency is 1.
+-- Gates with shared chains keep time: they are well formed and each has a use, there are 1 to 16 phases, each pin takes
+-- from its tap 1 to n ticks before its gate, or before the reading, at stage n * E, and the latency E is 1 or more, and 1
+-- where there is no pin.
 pub record KeepsTime (chained : Chained) : Type 0 where
   pub formed : IsGateNet chained.gates
   pub used : EachGateIsUsed chained.gates
@@ -53,7 +54,7 @@ pub record HasNames (chained : Chained) (names : Names) : Type 0 where
   pub inputs : length names.inputs ≡ chained.gates.inputs
   pub outputs : length names.outputs ≡ length chained.gates.outputs
 
--- Where the chains keep time, the netlist is valid.
+-- Where the chains keep time and the names fit, the netlist is valid.
 abbrev pub LayoutIsValid : Type 0
 LayoutIsValid = (chained : Chained) (names : Names) → KeepsTime chained → HasNames chained names → IsValid (elements_of chained names)
 

@@ -1,10 +1,10 @@
 -- The taps of a driver: itself and the DROs of its chain, each with the pins that take from it.
-use Rattle.std.specs.Prelude.{◌<◌, ◌≡◌, ◌^◌, ◌*◌, ◌+◌, ◌-◌, ◌++◌, ◌&&◌, ◌==◌, ℕ, zero, suc, Bool, true, false, cond, max, List, [], ◌∷◌, length, slice_index, slice_index_or}
+use Rattle.std.specs.Prelude.{◌<◌, ◌^◌, ◌*◌, ◌+◌, ◌-◌, ◌&&◌, ◌==◌, ℕ, zero, suc, Bool, true, false, cond, max, List, [], ◌∷◌, length, slice_index, slice_index_or}
 use Rattle.std.specs.List.{list_any}
 use Rattle.gate_net.specs.declared.row.Driver.{Driver}
 use Rattle.gate_net.specs.declared.row.Driver.TheVariants.{Input, Gate}
 use Rattle.gate_net.specs.Rows.{same_driver}
-use Rattle.gate_net.specs.Net.{pin_drivers, IsThere, IsGateNet}
+use Rattle.gate_net.specs.Net.{pin_drivers, IsGateNet}
 use Rattle.dro_chains.specs.declared.chain.Chained.{Chained}
 
 -- a pin in front of others, if it is one that is sought

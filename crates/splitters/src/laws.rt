@@ -3,9 +3,10 @@
 
 ghost use Rattle.splitters.specs.Laws.{ChainsAreValid, ChainsCanBeSplit, ChainsKeepTime, ChainsUnfold, DrosAreTheChains, DrosAreTheCount, LayoutIsValid};
 
-/// Where each gate has a use, and each pin takes from its tap 1 to n ticks before its gate or before the reading, the
-/// netlist of gates with shared chains is valid, if the names fit: each wire is made once and used once, and each is read in
-/// time.
+/// Where chains keep time and the names fit, the netlist is valid: each wire is made once and used once, and each is read in
+/// time. To keep time (`KeepsTime`), the gates are well formed and each has a use, there are 1 to 16 phases, each pin takes
+/// from its tap 1 to n ticks before its gate or before the reading, and the latency is 1 or more, and 1 where there is no
+/// pin.
 pub fn layout_is_valid()
     ensures { LayoutIsValid }
 {}

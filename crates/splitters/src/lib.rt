@@ -6,8 +6,9 @@
 //! in the chain first and then the pins in order. Wires are numbered as they are made, from 0.
 //!
 //! Promised: `split` answers `elements_of`, which is that netlist with all its numbers. Its only refusal is `NoMemory`, and
-//! no other is needed: the numbers of wires always fit. The netlist is valid where the chains keep time, so each wire is
-//! made once and used once, and each is read 1 to n ticks after it is made (`valid`, and `layout_is_valid` as a law).
+//! no other is needed: the numbers of wires always fit. The netlist is valid where the chains keep time (`KeepsTime`), so
+//! each wire is made once and used once, and clocked elements and outputs read theirs 1 to n ticks after they are made
+//! (`valid`, and `layout_is_valid` as a law).
 //! `can_split` tells exactly which chains it takes: the gates are well formed and have fewer than 2 ^ 31 pins, each stage
 //! fits 32 bits, and so do the numbers of wires, by a count of DROs, pins and gates (`FewWires`).
 //!
