@@ -1,4 +1,4 @@
--- The chains of balanced epochs can be laid out: a tap stands before its user, whose stage fits.
+-- Chains that mean a netlist can be laid out: a tap stands before its user, whose stage fits.
 use Rattle.std.proofs.Common.{◌≡◌, ◌<◌, ◌^◌, ℕ, zero, suc, ◌+◌, ◌*◌, List, [], ◌∷◌, ◌++◌, length, get_or, ap, subst, arith}
 use Rattle.std.proofs.lemmas.List.{length-map}
 use Rattle.std.specs.Prelude.{⊤, flat_map}
@@ -52,7 +52,7 @@ tap-fits chained pin (driver ∷ drivers) fit (suc k) d low =
     let same : (pin + 1) + k ≡ pin + suc k = omega arith in
     subst (λ p. tap_stage chained (get_or drivers k d) (get_or chained.needs p 0) < 2 ^ 32) same (tap-fits chained (pin + 1) drivers fit.1 k d (omega arith))
 
--- The chains of balanced epochs can be laid out, where the DROs are not too many: no gate is without a pin, so the wires are few.
+-- Chains that mean a netlist can be laid out, where the DROs are not too many: no gate is without a pin, so the wires are few.
 pub chains_can_be_split : ChainsCanBeSplit
 chains_can_be_split net phases n epochs has few_dros =
     let chained = chained_of net phases n epochs in
