@@ -1,1 +1,6 @@
 pub mod Name
+pub mod Answers
+pub mod Keys
+pub mod PerItem
+pub mod Graph
+pub mod NodeValues

@@ -1,6 +1,6 @@
 //! A list, for contracts and for code.
 
-ghost use Rattle.std.specs.Prelude.{◌≡◌, ◌<◌, ◌↔◌, [], ◌∷◌, ◌++◌, length, IsTrue, Some, OnOk, OnErr, slice_get};
+ghost use Rattle.std.specs.Prelude.{◌≡◌, ◌<◌, ◌↔◌, [], ◌∷◌, ◌++◌, length, IsTrue, Some, IfOk, OnOk, OnErr, slice_get};
 ghost use Rattle.std.specs.Cmp.Lexicographic.{pointwise, lists_per, lists_equiv};
 ghost use Rattle.std.specs.Hash as fed;
 ghost use Rattle.std.specs.Hash.{items_Alike};
@@ -41,6 +41,16 @@ impl<T> List<T> {
         ensures { result ≡ items.items }
     {
         List { items }
+    }
+
+    /// A copy of the items of a slice, in order.
+    pub fn from_slice(alloc: Global, items: &[T]) -> Result<List<T>, AllocError>
+    where
+        T: Copy,
+        ensures { IfOk result (λ list. list ≡ items.now) }
+    {
+        let items = Vec::from_slice(alloc, items)?;
+        Ok(List { items })
     }
 
     /// The items as a vector, in order. It takes no memory.
