@@ -1,3 +1,4 @@
+pub mod Places
+pub mod CallerLemmas
 pub mod RowLemmas
-pub mod NetLemmas
-pub mod ValueLemmas
+pub mod OrderLemmas

@@ -1,3 +1,5 @@
 pub mod Rows
 pub mod Net
+pub mod Order
 pub mod Values
+pub mod Entries

@@ -1,5 +1,5 @@
 -- Gate netlists: which are well formed, what drives each pin, and which drivers have a use.
-use Rattle.std.specs.Prelude.{◌≡◌, ◌≢◌, ◌<◌, ◌^◌, ◌++◌, ℕ, List, [], ◌∷◌, length, All, Contains, slice_index_or}
+use Rattle.std.specs.Prelude.{◌≡◌, ◌≢◌, ◌<◌, ◌+◌, ◌^◌, ◌++◌, ℕ, List, [], ◌∷◌, length, All, Contains, slice_index_or}
 use Rattle.std.specs.List.{flat_map}
 use Rattle.cell_lib.specs.declared.cell.Cell.TheVariants.{Dro}
 use Rattle.cell_lib.specs.Cell.{arity_of}
@@ -50,6 +50,12 @@ with_gate net row = record net { gates = with_row row net.gates }
 -- the netlist with one output more
 abbrev pub with_output : GateNet → End → GateNet
 with_output net end = record net { outputs = net.outputs ++ end ∷ [] }
+
+-- A gate behind its drivers, added at the end, leaves a well-formed netlist well formed.
+abbrev pub AddedGatesKeepNets : Type 0
+AddedGatesKeepNets =
+    (net : GateNet) (row : GateRow) → IsGateNet net → IsGate net.inputs (length net.gates) row → length net.gates + 1 < 2 ^ 31
+    → IsGateNet (record net { gates = net.gates ++ row ∷ [] })
 
 -- what drives an end: nothing, where it is a constant
 abbrev pub end_drivers : End → List Driver

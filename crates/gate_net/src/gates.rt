@@ -119,10 +119,9 @@ mod tests {
     use std::test::Fail;
 
     fn inverter(alloc: Global, input: u32) -> Result<GateRow, AllocError> {
-        let pins = [Driver::Input(input)].to_vec(alloc)?;
         Ok(GateRow {
             cell: Cell::Not,
-            pins: List::from_vec(pins),
+            pins: List::from_slice(alloc, &[Driver::Input(input)])?,
         })
     }
 

@@ -1,8 +1,7 @@
 use Rattle.std.proofs.Common.{◌≡◌, None, sym}
 use Rattle.gate_net.specs.Rows.{first_place}
 use Rattle.gate_net.specs.declared.row.GateRow.{GateRow}
-use Rattle.gate_net.proofs.RowLemmas.{IsFirstPlace-from_Some, IsFirstPlace-push}
-use Rattle.gate_net.proofs.NetLemmas.{IsGateNet-push}
+use Rattle.gate_net.proofs.CallerLemmas.{IsFirstPlace-from_Some, IsFirstPlace-push, IsGateNet-push}
 use Rattle.gate_net.proofs.net.GateNet.gate.Goals as goal
 
 pub returns-in-Some-clause-first : goal.returns-in-Some-clause-first
