@@ -2,11 +2,15 @@
 
 ghost use Rattle.std.specs.Prelude.{◌≡◌, ◌+◌, ◌^◌, ◌<◌, ◌≤◌, IfOk, All, map};
 ghost use Rattle.gate_net.specs.Net.{IsGateNet};
-ghost use Rattle.phase_rule.specs.Levels.{largest, driver_level, levels_of, phases_of};
+ghost use Rattle.gate_net.specs.Entries.{entry_of};
+ghost use Rattle.phase_rule.specs.Levels.{largest, levels_of, phases_of};
 
-use gate_net::{Driver, GateNet};
+use gate_net::{Driver, GateNet, entry};
 use net_base::{List, NoMemory};
 use std::alloc::Global;
+
+/// The clock phases at most: more than four are rare, and sixteen leave room.
+pub const MAX_PHASES: u32 = 16;
 
 /// The level of each gate, in order: 1 more than the largest level of its drivers, where inputs have level 0.
 pub fn levels(alloc: Global, net: &GateNet) -> Result<List<u32>, NoMemory>
@@ -24,7 +28,7 @@ pub fn levels(alloc: Global, net: &GateNet) -> Result<List<u32>, NoMemory>
 // The largest level of some drivers, whose levels are among those so far.
 fn largest_level(levels: &[u32], pins: &[Driver]) -> u32
     requires { All (λ level. level < 2 ^ 31) levels.now }
-    ensures largest { result ≡ largest (map (driver_level levels.now) pins.now) }
+    ensures largest { result ≡ largest (map (entry_of levels.now) pins.now) }
     ensures bound { result < 2 ^ 31 }
 {
     let mut most = 0;
@@ -34,22 +38,19 @@ fn largest_level(levels: &[u32], pins: &[Driver]) -> u32
     most
 }
 
-// A gate that is not among them would have level 0; the netlist has each driver before its user.
+// The level of a driver, among those so far.
 fn level_at(levels: &[u32], driver: Driver) -> u32
     requires { All (λ level. level < 2 ^ 31) levels.now }
-    ensures level { result ≡ driver_level levels.now driver }
+    ensures level { result ≡ entry_of levels.now driver }
     ensures bound { result < 2 ^ 31 }
 {
-    match driver {
-        Driver::Input(_) => 0,
-        Driver::Gate(k) => levels.get(k as usize).copied().unwrap_or(0),
-    }
+    entry(levels, driver)
 }
 
 /// The phase of each gate, with `n` phases: its level modulo `n`.
 pub fn phases(alloc: Global, levels: &List<u32>, n: u32) -> Result<List<u32>, NoMemory>
     requires one { 1 ≤ n }
-    requires sixteen { n ≤ 16 }
+    requires few { n ≤ MAX_PHASES }
     ensures value { IfOk result (λ phases. phases ≡ phases_of n levels.now) }
     ensures below { IfOk result (All (λ phase. phase < n)) }
 {
@@ -73,14 +74,14 @@ mod tests {
         let alloc = rt.alloc();
         let input = Driver::Input(0);
         let mut net = GateNet::new(alloc, 1);
-        net.gate(Cell::Not, List::from_vec([input].to_vec(alloc)?))?;
+        net.gate(Cell::Not, List::from_slice(alloc, &[input])?)?;
         net.gate(
             Cell::And,
-            List::from_vec([input, Driver::Gate(0)].to_vec(alloc)?),
+            List::from_slice(alloc, &[input, Driver::Gate(0)])?,
         )?;
         net.gate(
             Cell::Or,
-            List::from_vec([Driver::Gate(1), input].to_vec(alloc)?),
+            List::from_slice(alloc, &[Driver::Gate(1), input])?,
         )?;
         net.output(End::From(Driver::Gate(2)))?;
         let levels = levels(alloc, &net)?;

@@ -1,7 +1,7 @@
-//! The weight of a pin, and the laws on gaps.
+//! The weight of a pin.
 
 ghost use Rattle.std.specs.Prelude.{◌≡◌};
-ghost use Rattle.phase_rule.specs.Stages.{weight_of, GapsAgree, NeedLeavesOneWindow};
+ghost use Rattle.phase_rule.specs.Stages.{weight_of};
 
 /// The least gap in epochs from a driver of the phase `driver` to a user of the phase `user`: 0 or 1.
 pub fn weight(user: u32, driver: u32) -> u32
@@ -9,16 +9,6 @@ pub fn weight(user: u32, driver: u32) -> u32
 {
     if driver < user { 0 } else { 1 }
 }
-
-/// A gap in stages and a gap in epochs give the same need.
-pub fn gaps_agree()
-    ensures { GapsAgree }
-{}
-
-/// Behind as many DROs as a gap needs, 1 to n stages are left: a cell there still sees the pulse in its window.
-pub fn need_leaves_one_window()
-    ensures { NeedLeavesOneWindow }
-{}
 
 #[cfg(test)]
 mod tests {
