@@ -1,3 +1,8 @@
-pub mod UseLemmas
-pub mod NumberLemmas
-pub mod Earliest
+mod NetworkLemmas
+mod UseLemmas
+mod NumberLemmas
+mod BalancedEpochs
+mod Lengths
+mod DriverNumbers
+pub mod CallerLemmas
+mod Examples

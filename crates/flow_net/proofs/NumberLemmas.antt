@@ -2,12 +2,14 @@
 use Rattle.std.proofs.Common.{◌≡◌, ◌==◌, ◌<◌, ◌≤◌, ◌+◌, ◌||◌, ◌∙◌, ℕ, zero, suc, Bool, true, false, cond, nat_lt, List, [], ◌∷◌, length, map, get_or, All, refl, ap, arith}
 use Rattle.std.proofs.lemmas.List.{get_or_read}
 use Rattle.std.proofs.lemmas.Bool.Decides.{nat_tests}
-use Rattle.std.proofs.lemmas.List.Elements.{All-head, All-tail}
+use Rattle.std.proofs.lemmas.List.Elements.{All-weaker}
+use Rattle.net_base.proofs.CallerLemmas.{bit-le}
 use Rattle.gate_net.specs.declared.row.Driver.{Driver}
 use Rattle.gate_net.specs.declared.row.Driver.TheVariants.{Input, Gate}
 use Rattle.gate_net.specs.declared.net.GateNet.{GateNet}
 use Rattle.gate_net.specs.Rows.{same_driver}
 use Rattle.gate_net.specs.Net.{IsThere}
+use Rattle.gate_net.proofs.CallerLemmas.{map-same}
 use Rattle.flow_net.specs.declared.uses.Use.{Use}
 use Rattle.flow_net.specs.declared.net.Pin.{Pin}
 use Rattle.flow_net.specs.Uses.{is_used, used_below, marked_below, number_by, driver_number, uses_of}
@@ -19,11 +21,7 @@ hit (Input j) i = cond (nat_lt j i) 1 0
 hit (Gate k) i = 0
 
 hit-le : (driver : Driver) (i : ℕ) → hit driver i ≤ 1
-hit-le (Input j) i = counted (nat_lt j i)
-  where
-    counted : (b : Bool) → cond b 1 0 ≤ 1
-    counted true = omega arith
-    counted false = omega arith
+hit-le (Input j) i = bit-le (nat_lt j i)
 hit-le (Gate k) i = omega arith
 
 -- Where a test tells the input of the new use, the count of hits moves on; elsewhere it stays.
@@ -52,9 +50,9 @@ used_below-nil zero = refl
 used_below-nil (suc i) = omega (arith, used_below-nil i)
 
 -- There are no more used inputs than uses.
-pub used_below-le : (uses : List Use) (i : ℕ) → used_below uses i ≤ length uses
-used_below-le [] i = omega (arith, used_below-nil i)
-used_below-le (one ∷ uses) i = omega (arith, used_below-cons one uses i, hit-le one.driver i, used_below-le uses i)
+pub used_below-le-uses : (uses : List Use) (i : ℕ) → used_below uses i ≤ length uses
+used_below-le-uses [] i = omega (arith, used_below-nil i)
+used_below-le-uses (one ∷ uses) i = omega (arith, used_below-cons one uses i, hit-le one.driver i, used_below-le-uses uses i)
 
 -- Marks that say which inputs are used count them.
 pub marked_below-used : (marks : List Bool) (uses : List Use) (inputs : ℕ) → ((i : ℕ) → i < inputs → get_or marks i false ≡ is_used i uses) → (i : ℕ) → i ≤ inputs → marked_below marks i ≡ used_below uses i
@@ -69,11 +67,11 @@ number_by-is net numbers most says (Gate k) there = ap (λ n. n + k) (says net.i
 
 -- Pins by a table of numbers are the pins of the network.
 pub pins-by_table : (net : GateNet) (phases numbers : List ℕ) (most : ℕ) → ((i : ℕ) → i ≤ net.inputs → get_or numbers i 0 ≡ used_below (uses_of net) i) → (uses : List Use) → All (λ (one : Use). IsThere net.inputs most one.driver) uses → map (pin_by numbers net.inputs phases) uses ≡ map (pin_of net phases) uses
-pins-by_table net phases numbers most says [] there = refl
-pins-by_table net phases numbers most says (one ∷ uses) there =
-    let here : pin_by numbers net.inputs phases one ≡ pin_of net phases one =
-    ap (λ n. let pin : Pin = record (pin_of net phases one) { driver = n } in pin) (number_by-is net numbers most says one.driver (All-head (λ (one : Use). IsThere net.inputs most one.driver) one uses there)) in
-    λ i. here i ∷ pins-by_table net phases numbers most says uses (All-tail (λ (one : Use). IsThere net.inputs most one.driver) one uses there) i
+pins-by_table net phases numbers most says uses there =
+    map-same (pin_by numbers net.inputs phases) (pin_of net phases) uses
+    (All-weaker (λ (one : Use). IsThere net.inputs most one.driver) (λ (one : Use). pin_by numbers net.inputs phases one ≡ pin_of net phases one)
+    (λ one here. ap (λ n. let pin : Pin = record (pin_of net phases one) { driver = n } in pin) (number_by-is net numbers most says one.driver here))
+    uses there)
 
 -- The last entry of a table of numbers, as it is read, is how many inputs are used.
 pub last_number : (numbers : List ℕ) (uses all : List Use) (i x : ℕ) → length numbers ≡ i + 1 → x ≡ get_or numbers i x → get_or numbers i 0 ≡ used_below uses i → uses ≡ all → x ≡ used_below all i

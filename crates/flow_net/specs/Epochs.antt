@@ -3,12 +3,13 @@ use Rattle.std.specs.Prelude.{◌≡◌, ◌≤◌, ◌<◌, ◌+◌, ◌++◌, 
 use Rattle.std.specs.List.{flat_map}
 use Rattle.gate_net.specs.declared.net.GateNet.{GateNet}
 use Rattle.gate_net.specs.Net.{IsGateNet, end_drivers}
+use Rattle.gate_net.specs.Entries.{entry_of}
 use Rattle.phase_rule.specs.Levels.{largest, levels_of, phases_of}
 use Rattle.phase_rule.specs.Stages.{need_over_epochs}
 use Rattle.flow_net.specs.declared.net.Pin.{Pin}
 use Rattle.flow_net.specs.declared.net.Net.{Net}
 use Rattle.flow_net.specs.declared.net.Epochs.{Epochs}
-use Rattle.flow_net.specs.Network.{vertex_of, network_of}
+use Rattle.flow_net.specs.Network.{network_of}
 
 -- the epoch of a vertex: 0 of the source, a gate's own, and the sink's behind the gates
 abbrev pub epoch_at : Epochs → ℕ → ℕ
@@ -49,7 +50,7 @@ earliest_gates n net = map (λ level. level / n) (levels_of net)
 abbrev pub earliest_epochs : ℕ → GateNet → Epochs
 earliest_epochs n net = record {
   gates = earliest_gates n net;
-  sink = 1 + largest (map (λ driver. epoch_at (record { gates = earliest_gates n net; sink = 0 }) (vertex_of driver)) (flat_map end_drivers net.outputs));
+  sink = 1 + largest (map (entry_of (earliest_gates n net)) (flat_map end_drivers net.outputs));
 }
 
 -- With phases from levels, the earliest epochs are balanced.

@@ -4,7 +4,7 @@ use Rattle.gate_net.specs.declared.row.Driver.{Driver}
 use Rattle.gate_net.specs.declared.row.Driver.TheVariants.{Input, Gate}
 use Rattle.gate_net.specs.declared.net.GateNet.{GateNet}
 use Rattle.gate_net.specs.Net.{IsGateNet}
-use Rattle.phase_rule.specs.Levels.{driver_phase}
+use Rattle.gate_net.specs.Entries.{entry_of}
 use Rattle.phase_rule.specs.Stages.{weight_of}
 use Rattle.flow_net.specs.declared.uses.Use.{Use}
 use Rattle.flow_net.specs.declared.net.Pin.{Pin}
@@ -27,7 +27,7 @@ pin_of net phases one = record {
   driver = driver_number net one.driver;
   from = vertex_of one.driver;
   to = one.user;
-  weight = weight_of (vertex_phase phases one.user) (driver_phase phases one.driver);
+  weight = weight_of (vertex_phase phases one.user) (entry_of phases one.driver);
 }
 
 -- the same, by a table of the numbers of used inputs
@@ -36,7 +36,7 @@ pin_by numbers inputs phases one = record {
   driver = number_by numbers inputs one.driver;
   from = vertex_of one.driver;
   to = one.user;
-  weight = weight_of (vertex_phase phases one.user) (driver_phase phases one.driver);
+  weight = weight_of (vertex_phase phases one.user) (entry_of phases one.driver);
 }
 
 -- the network of a gate netlist whose gates have these phases

@@ -50,6 +50,7 @@ fn are_pins_balanced(epochs: &Epochs, pins: &[Pin]) -> bool
 #[cfg(test)]
 mod tests {
     use super::*;
+    use crate::dro_count;
     use net_base::List;
     use std::test::Fail;
 
@@ -67,16 +68,21 @@ mod tests {
         let net = Net {
             gates: 1,
             drivers: 2,
-            pins: List::from_vec([pin(0, 0, 1), pin(1, 1, 2), late].to_vec(alloc)?),
+            pins: List::from_slice(alloc, &[pin(0, 0, 1), pin(1, 1, 2), late])?,
         };
-        // The sink, whether that is balanced, and what the input needs on its way there.
-        for (sink, wanted, dros) in [(1u32, false, 0u32), (2, true, 1), (3, true, 2)] {
+        // The sink, whether that is balanced, what the input needs on its way there, and what both chains have.
+        for (sink, wanted, dros, all) in [
+            (1u32, false, 0u32, 0u64),
+            (2, true, 1, 1),
+            (3, true, 2, 3),
+        ] {
             let epochs = Epochs {
-                gates: List::from_vec([1u32].to_vec(alloc)?),
+                gates: List::from_slice(alloc, &[1u32])?,
                 sink,
             };
             assert_eq!(rt; is_balanced(&net, &epochs), wanted, "{sink}");
             assert_eq!(rt; need(&epochs, &late), dros, "{sink}");
+            assert_eq!(rt; dro_count(alloc, &net, &epochs)?, all, "{sink}");
         }
         Ok(())
     }

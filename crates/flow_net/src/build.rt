@@ -3,14 +3,13 @@
 ghost use Rattle.std.specs.Prelude.{◌≡◌, ◌+◌, ◌^◌, ◌<◌, ◌≤◌, ℕ, All, IfOk, length, map, slice_index};
 ghost use Rattle.std.specs.List.{flat_map};
 ghost use Rattle.gate_net.specs.Net.{IsThere, IsGateNet, AreGates, end_drivers};
-ghost use Rattle.phase_rule.specs.Levels.{driver_phase};
 ghost use Rattle.flow_net.specs.Uses.{number_by, gate_uses, uses_of};
 ghost use Rattle.flow_net.specs.Network.{vertex_of, vertex_phase, pin_by, network_of, HasNetwork};
 
 use crate::numbers::input_numbers;
 use crate::uses::{Use, all_uses};
 use crate::{Net, Pin};
-use gate_net::{Driver, End, GateNet, GateRow};
+use gate_net::{Driver, End, GateNet, GateRow, entry};
 use net_base::{List, NoMemory};
 use phase_rule::weight;
 use std::alloc::Global;
@@ -25,15 +24,6 @@ fn number(numbers: &[u32], inputs: u32, driver: Driver) -> u32
     match driver {
         Driver::Input(i) => numbers[i as usize],
         Driver::Gate(k) => numbers[inputs as usize] + k,
-    }
-}
-
-fn phase_at_driver(phases: &[u32], driver: Driver) -> u32
-    ensures { result ≡ driver_phase phases.now driver }
-{
-    match driver {
-        Driver::Input(_) => 0,
-        Driver::Gate(k) => phases.get(k as usize).copied().unwrap_or(0),
     }
 }
 
@@ -67,10 +57,7 @@ fn pin(numbers: &[u32], inputs: u32, phases: &[u32], one: Use) -> Pin
         driver: number(numbers, inputs, one.driver),
         from: vertex(one.driver),
         to: one.user,
-        weight: weight(
-            phase_at_user(phases, one.user),
-            phase_at_driver(phases, one.driver),
-        ),
+        weight: weight(phase_at_user(phases, one.user), entry(phases, one.driver)),
     }
 }
 
@@ -108,7 +95,7 @@ fn gate_pins(inputs: u32, rows: &[GateRow]) -> u64
     requires gates { AreGates inputs rows.now }
     requires few { length rows.now < 2 ^ 31 }
     ensures count { result ≡ length (gate_uses 1 rows.now) }
-    ensures bound { result < 2 ^ 32 }
+    ensures bound { result < 2 ^ 33 }
 {
     let mut count = 0;
     for row in rows {
@@ -168,20 +155,20 @@ mod tests {
         let alloc = rt.alloc();
         let input = Driver::Input(1);
         let mut gates = GateNet::new(alloc, 2);
-        gates.gate(Cell::Not, List::from_vec([input].to_vec(alloc)?))?;
+        gates.gate(Cell::Not, List::from_slice(alloc, &[input])?)?;
         gates.gate(
             Cell::And,
-            List::from_vec([input, Driver::Gate(0)].to_vec(alloc)?),
+            List::from_slice(alloc, &[input, Driver::Gate(0)])?,
         )?;
         gates.gate(
             Cell::Or,
-            List::from_vec([Driver::Gate(1), input].to_vec(alloc)?),
+            List::from_slice(alloc, &[Driver::Gate(1), input])?,
         )?;
         gates.output(End::From(Driver::Gate(2)))?;
         gates.output(End::Zero)?;
         assert_eq!(rt; gates.gates.len(), 3);
         assert_eq!(rt; pin_count(&gates), 6);
-        let net = net_of(alloc, &gates, &List::from_vec([0u32, 0, 0].to_vec(alloc)?))?;
+        let net = net_of(alloc, &gates, &List::from_slice(alloc, &[0u32, 0, 0])?)?;
         let pin = |driver: u32, from: u32, to: u32| Pin {
             driver,
             from,

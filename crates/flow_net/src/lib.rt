@@ -5,18 +5,23 @@
 //! G are the gates, G + 1 is the sink, and behind it stands a mirror for each driver, to which a flow goes back.
 //!
 //! Promised: `net_of` answers `network_of` (`value`), and the numbers of its vertices fit (`few`); `pin_count` and
-//! `is_balanced` are the tests of its conditions; `need` is the gap in epochs less the weight. The only refusal is
-//! `NoMemory`. With phases from levels the earliest epochs, each gate's level over n and the sink 1 behind the last
-//! driver of an output, are balanced (`earliest_epochs_are_balanced`).
-//! Not promised: that epochs are the best. `dro_count` says what they cost: for each driver the largest need of its
-//! pins, since they all tap one chain.
+//! `is_balanced` are the tests of its conditions; `need` is the gap in epochs less the weight. Each driver has a number of
+//! its own below their count, none is left out, and a pin's number tells where it starts (`drivers_are_numbered`).
+//! `chain_lengths` is for each driver the largest need of its pins, since they all tap one chain, and `dro_count` is the
+//! sum: what epochs cost. `earliest_epochs` has for each gate its level over n, and the sink 1 behind the last driver of an
+//! output; with phases from levels they are balanced (`earliest_epochs_are_balanced`). The only refusal is `NoMemory`.
+//! Not promised: that epochs are the best.
 //!
-//! Read `specs/Uses.antt` and `specs/Network.antt` for the network, `specs/Epochs.antt` for `IsBalanced` and
-//! `dro_count`, and `specs/Flows.antt` for full flows and the value of a flow. Central proof: `proofs/Earliest.antt`.
+//! Read `specs/Uses.antt` and `specs/Network.antt` for the network, `specs/DriverNumbers.antt` for the law on numbers,
+//! `specs/Epochs.antt` for `IsBalanced` and `dro_count`, `specs/Arcs.antt` for the arcs, and `specs/Flows.antt` for full
+//! flows and the value of a flow. `proofs/Examples.antt` evaluates them on networks made by hand. Central proof:
+//! `proofs/BalancedEpochs.antt`.
 #![tactic(auto)]
 
 mod balance;
 mod build;
+mod count;
+mod earliest;
 mod laws;
 mod net;
 mod numbers;
@@ -24,5 +29,9 @@ mod uses;
 
 pub use balance::{epoch_at, is_balanced, need};
 pub use build::{MAX_PINS, net_of, pin_count};
-pub use laws::earliest_epochs_are_balanced;
+pub use count::{chain_lengths, dro_count, total_length};
+pub use earliest::earliest_epochs;
+pub use laws::{drivers_are_numbered, earliest_epochs_are_balanced};
 pub use net::{Epochs, Flow, Net, Pin, Units};
+// For the crates that stand on the network and not on the rule of phases.
+pub use phase_rule::{MAX_PHASES, phases};

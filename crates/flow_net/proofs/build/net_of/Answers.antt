@@ -3,8 +3,9 @@ use Rattle.gate_net.specs.Net.{IsThere}
 use Rattle.flow_net.specs.declared.uses.Use.{Use}
 use Rattle.flow_net.specs.Uses.{uses_of, used_below, used_inputs, IsInputBelow}
 use Rattle.flow_net.specs.Network.{pin_by, pin_of}
-use Rattle.flow_net.proofs.UseLemmas.{uses-there, uses-inputs, gates-le-uses}
-use Rattle.flow_net.proofs.NumberLemmas.{used_below-le, pins-by_table, last_number}
+use Rattle.flow_net.proofs.UseLemmas.{uses-there, uses-inputs}
+use Rattle.flow_net.proofs.NetworkLemmas.{gates-le-uses}
+use Rattle.flow_net.proofs.NumberLemmas.{used_below-le-uses, pins-by_table, last_number}
 use Rattle.flow_net.proofs.build.net_of.Goals as goal
 
 pub input_numbers-requires : goal.input_numbers-requires
@@ -24,7 +25,7 @@ pins-requires-clause-few c =
     let uses : c.as_slice.result.now ≡ uses_of net = c.as_slice.ensures.value ∙ c.in_ok-uses.ensures in
     let table : get_or c.as_slice-2.result.now net.inputs 0 ≡ used_below c.as_slice.result.now net.inputs =
     ap (λ xs. get_or xs net.inputs 0) c.as_slice-2.ensures.value ∙ c.in_ok-numbers.ensures.value net.inputs (omega arith) in
-    omega (arith, table, used_below-le c.as_slice.result.now net.inputs, ap length uses, c.requires.few_pins)
+    omega (arith, table, used_below-le-uses c.as_slice.result.now net.inputs, ap length uses, c.requires.few_pins)
 
 pub overflow_add-result : goal.overflow_add-result
 overflow_add-result c =
@@ -33,7 +34,7 @@ overflow_add-result c =
     let last : c.index.result.now ≡ used_inputs net =
     last_number c.in_ok-numbers.numbers.items c.as_slice.result.now (uses_of net) net.inputs c.index.result.now
     c.in_ok-numbers.ensures.each c.index.ensures (c.in_ok-numbers.ensures.value net.inputs (omega arith)) uses in
-    omega (arith, last, c.len-gates.ensures, used_below-le (uses_of net) net.inputs, c.requires.few_pins, c.requires.formed.few_gates)
+    omega (arith, last, c.len-gates.ensures, used_below-le-uses (uses_of net) net.inputs, c.requires.few_pins, c.requires.formed.few_gates)
 
 pub returns-clause-value : goal.returns-clause-value
 returns-clause-value c =
@@ -60,4 +61,4 @@ returns-clause-few c =
     let last : c.index.result.now ≡ used_inputs net =
     last_number c.in_ok-numbers.numbers.items c.as_slice.result.now (uses_of net) net.inputs c.index.result.now
     c.in_ok-numbers.ensures.each c.index.ensures (c.in_ok-numbers.ensures.value net.inputs (omega arith)) uses in
-    omega (arith, last, c.len-gates.ensures, used_below-le (uses_of net) net.inputs, gates-le-uses net c.requires.formed, c.requires.few_pins)
+    omega (arith, last, c.len-gates.ensures, used_below-le-uses (uses_of net) net.inputs, gates-le-uses net c.requires.formed, c.requires.few_pins)
