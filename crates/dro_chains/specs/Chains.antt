@@ -1,13 +1,14 @@
 -- What `chains` needs, what it answers, and when it refuses.
-use Rattle.std.specs.Prelude.{◌≡◌, ◌≤◌, ◌<◌, ◌*◌, ◌^◌, ℕ, List, [], ◌∷◌, length, map, sum, slice_index}
+use Rattle.std.specs.Prelude.{◌≡◌, ◌≤◌, ◌<◌, ◌*◌, ◌^◌, ℕ, cond, nat_lt, Option, Some, None, Result, Ok, Err, List, [], ◌∷◌, length, map, slice_index}
 use Rattle.gate_net.specs.declared.net.GateNet.{GateNet}
 use Rattle.gate_net.specs.Net.{EachGateIsUsed}
+use Rattle.phase_rule.specs.declared.level.TheConstants.{MAX_PHASES}
 use Rattle.phase_rule.specs.Levels.{ArePhases}
 use Rattle.phase_rule.specs.Stages.{stage_of}
 use Rattle.flow_net.specs.declared.net.Epochs.{Epochs}
 use Rattle.flow_net.specs.Uses.{uses_of}
 use Rattle.flow_net.specs.Network.{network_of, HasNetwork}
-use Rattle.flow_net.specs.Epochs.{need_of, chain_lengths, IsBalanced}
+use Rattle.flow_net.specs.Epochs.{need_of, chain_lengths, dro_count, IsBalanced}
 use Rattle.dro_chains.specs.declared.chain.Chained.{Chained}
 use Rattle.dro_chains.specs.declared.chain.ChainFault.{ChainFault}
 use Rattle.dro_chains.specs.declared.chain.ChainFault.TheVariants.{TooManyDros, NoMemory}
@@ -26,19 +27,19 @@ pub record CanChain (net : GateNet) (phases : List ℕ) (n : ℕ) (epochs : Epoc
   pub stages : (k : ℕ) → k < length epochs.gates → stage_of n (slice_index epochs.gates k) (slice_index phases k) < 2 ^ 32
   pub latency : n * epochs.sink < 2 ^ 32
 
--- Where the chains mean a netlist: each gate has a use and a phase of n, 1 to 16, the epochs are balanced, and the
--- latency is 1 or more, and 1 where there is no pin.
+-- Where the chains mean a netlist: each gate has a use and a phase of n, 1 to `MAX_PHASES`, the epochs are balanced, and
+-- the latency is 1 or more, and 1 where there is no pin.
 pub record HasChains (net : GateNet) (phases : List ℕ) (n : ℕ) (epochs : Epochs) : Type 0 where
   pub fits : CanChain net phases n epochs
   pub used : EachGateIsUsed net
   pub some_phase : 1 ≤ n
-  pub sixteen_phases : n ≤ 16
+  pub few_phases : n ≤ MAX_PHASES
   pub phased : ArePhases n net phases
   pub balanced : IsBalanced (network_of net phases) epochs
   pub latency : 1 ≤ epochs.sink
   pub empty : uses_of net ≡ [] → epochs.sink ≡ 1
 
--- what `chains` answers: a chain per driver, as long as the largest need of its pins, and a need per pin
+-- the chains of a netlist: one per driver, as long as the largest need of its pins, and a need per pin
 abbrev pub chained_of : GateNet → List ℕ → ℕ → Epochs → Chained
 chained_of net phases n epochs = record {
   gates = net;
@@ -49,7 +50,11 @@ chained_of net phases n epochs = record {
   needs = map (need_of epochs) (network_of net phases).pins;
 }
 
--- whether this fault may come at so many DROs: too many, with their number, or want of memory
-abbrev pub Refuses : ℕ → ChainFault → Type 0
-Refuses count (TooManyDros sum) = (MAX_DROS < count) × (sum ≡ count)
-Refuses count NoMemory = Unit {0}
+-- what `chains` answers: the chains, unless they have too many DROs, and then how many
+abbrev pub chains_of : GateNet → List ℕ → ℕ → Epochs → Result Chained ℕ
+chains_of net phases n epochs = cond (nat_lt MAX_DROS (dro_count (network_of net phases) epochs)) (Err (dro_count (network_of net phases) epochs)) (Ok (chained_of net phases n epochs))
+
+-- the answer that a fault tells; want of memory tells none
+abbrev pub told : ChainFault → Option (Result Chained ℕ)
+told (TooManyDros count) = Some (Err count)
+told NoMemory = None

@@ -1,14 +1,13 @@
 //! The chains of a gate netlist.
 
-ghost use Rattle.std.specs.Prelude.{◌≡◌, ◌≤◌, ◌<◌, ◌↔◌, IsTrue, IfOk, IfErr, sum};
+ghost use Rattle.std.specs.Prelude.{◌≡◌, ◌↔◌, IsTrue, Ok};
+ghost use Rattle.net_base.specs.Answers.{Gives};
 ghost use Rattle.gate_net.specs.Net.{IsGateNet};
-ghost use Rattle.flow_net.specs.Network.{network_of};
-ghost use Rattle.flow_net.specs.Epochs.{dro_count};
-ghost use Rattle.dro_chains.specs.Chains.{CanChain, chained_of, Refuses};
+ghost use Rattle.dro_chains.specs.Chains.{CanChain, chains_of, told};
 ghost use Rattle.dro_chains.specs.declared.chain.ChainFault.TheVariants.{NoMemory as OutOfMemory};
 
-use crate::parts::{chain_lengths, do_stages_fit, needs, stages, total};
-use flow_net::{Epochs, MAX_PINS, net_of, pin_count};
+use crate::parts::{do_stages_fit, needs, stages};
+use flow_net::{Epochs, MAX_PINS, chain_lengths, net_of, pin_count, total_length};
 use gate_net::GateNet;
 use net_base::{List, NoMemory};
 use std::alloc::Global;
@@ -75,13 +74,11 @@ pub fn chains(
     epochs: &Epochs,
 ) -> Result<Chained, ChainFault>
     requires { CanChain gates phases.now n epochs.now }
-    ensures value { IfOk result (λ chained. chained ≡ chained_of gates phases.now n epochs.now) }
-    ensures fits { IfOk result (λ _. dro_count (network_of gates phases.now) epochs.now ≤ MAX_DROS) }
-    ensures refused { IfErr result (Refuses (dro_count (network_of gates phases.now) epochs.now)) }
+    ensures { Gives Ok told result (chains_of gates phases.now n epochs.now) }
 {
     let net = net_of(alloc, &gates, phases)?;
-    let lengths = chain_lengths(alloc, epochs, net.pins.as_slice(), net.drivers)?;
-    let count = total(lengths.as_slice());
+    let lengths = chain_lengths(alloc, &net, epochs)?;
+    let count = total_length(&lengths);
     if count > MAX_DROS {
         return Err(ChainFault::TooManyDros(count));
     }
@@ -92,7 +89,7 @@ pub fn chains(
         n,
         stages: List::from_vec(stages),
         latency: epochs.sink,
-        lengths: List::from_vec(lengths),
+        lengths,
         needs: List::from_vec(needs),
     })
 }
@@ -109,21 +106,21 @@ mod tests {
         let alloc = rt.alloc();
         let input = Driver::Input(0);
         let mut gates = GateNet::new(alloc, 1);
-        gates.gate(Cell::Not, List::from_vec([input].to_vec(alloc)?))?;
+        gates.gate(Cell::Not, List::from_slice(alloc, &[input])?)?;
         gates.gate(
             Cell::And,
-            List::from_vec([input, Driver::Gate(0)].to_vec(alloc)?),
+            List::from_slice(alloc, &[input, Driver::Gate(0)])?,
         )?;
         gates.gate(
             Cell::Or,
-            List::from_vec([Driver::Gate(1), input].to_vec(alloc)?),
+            List::from_slice(alloc, &[Driver::Gate(1), input])?,
         )?;
         gates.output(End::From(Driver::Gate(2)))?;
         assert_eq!(rt; gates.gates.len(), 3);
         assert_eq!(rt; pin_count(&gates), 6);
-        let phases = List::from_vec([0u32, 0, 0].to_vec(alloc)?);
+        let phases = List::from_slice(alloc, &[0u32, 0, 0])?;
         let epochs = Epochs {
-            gates: List::from_vec([1u32, 2, 3].to_vec(alloc)?),
+            gates: List::from_slice(alloc, &[1u32, 2, 3])?,
             sink: 4,
         };
         let chained = chains(alloc, gates, &phases, 1, &epochs)?;

@@ -1,52 +1,13 @@
-//! The parts of chains: lengths, needs and stages.
+//! The parts of chains: needs and stages.
 
-ghost use Rattle.std.specs.Prelude.{◌≡◌, ◌<◌, ◌^◌, ◌==◌, ◌↔◌, ℕ, IsTrue, IfOk, length, map, sum, max, cond, slice_index};
+ghost use Rattle.std.specs.Prelude.{◌≡◌, ◌<◌, ◌^◌, ◌↔◌, ℕ, IsTrue, IfOk, length, map, slice_index};
 ghost use Rattle.phase_rule.specs.Stages.{stage_of};
-ghost use Rattle.flow_net.specs.Epochs.{need_of, chain_lengths as lengths_of};
+ghost use Rattle.flow_net.specs.Epochs.{need_of};
 ghost use Rattle.dro_chains.specs.Chains.{stages_of};
 
 use flow_net::{Epochs, Pin, need};
 use net_base::NoMemory;
 use std::alloc::Global;
-
-/// For each driver the largest need of its pins.
-pub(crate) fn chain_lengths(
-    alloc: Global,
-    epochs: &Epochs,
-    pins: &[Pin],
-    drivers: u32,
-) -> Result<Vec<u32>, NoMemory>
-    ensures each { IfOk result (λ lengths. length lengths.items ≡ drivers) }
-    ensures value { IfOk result (λ lengths. lengths.items ≡ lengths_of epochs.now pins.now drivers) }
-{
-    let mut lengths = vec![in alloc; 0u32; drivers as usize]?;
-    for pin in pins {
-        raise(lengths.as_mut_slice(), pin.driver, need(epochs, pin));
-    }
-    Ok(lengths)
-}
-
-// Makes the chain of a driver as long as this need, if it isn't.
-fn raise(lengths: &mut [u32], driver: u32, need: u32)
-    ensures { (d : ℕ) → d < length lengths.old → slice_index lengths.new d ≡ cond (driver == d) (max need (slice_index lengths.old d)) (slice_index lengths.old d) }
-{
-    let place = driver as usize;
-    if place < lengths.len() {
-        lengths[place] = need.max(lengths[place]);
-    }
-}
-
-/// The sum of the lengths.
-pub(crate) fn total(lengths: &[u32]) -> u64
-    requires { length lengths.now < 2 ^ 32 }
-    ensures { result ≡ sum lengths.now }
-{
-    let mut total = 0;
-    for length in lengths {
-        total += u64::from(*length);
-    }
-    total
-}
 
 /// The need of each pin.
 pub(crate) fn needs(alloc: Global, epochs: &Epochs, pins: &[Pin]) -> Result<Vec<u32>, NoMemory>

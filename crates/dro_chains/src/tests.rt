@@ -23,7 +23,7 @@ fn not_chain(alloc: Global, count: u32) -> Result<GateNet, AllocError>
     let mut net = GateNet::new(alloc, 3);
     let mut last = Driver::Input(0);
     for _ in 0..count {
-        let pins = List::from_vec([last].to_vec(alloc)?);
+        let pins = List::from_slice(alloc, &[last])?;
         let gate = net.gate(Cell::Not, pins)?;
         last = Driver::Gate(gate);
     }

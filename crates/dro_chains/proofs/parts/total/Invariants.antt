@@ -1,5 +1,0 @@
-use Rattle.std.proofs.Common.{◌≡◌, ◌≤◌, ◌*◌, take, sum}
-use Rattle.dro_chains.proofs.parts.total.Given as goal
-
-abbrev pub invariant-loop-length : goal.invariant-loop-length
-invariant-loop-length l = (l.total ≡ sum (take l.length-index l.lengths)) × (l.total ≤ 4294967295 * l.length-index)
