@@ -5,17 +5,18 @@
 -- at tick n * c + s. A pin's wire has a stage s - D, where 1 to n is the gap D, and by the window lemma what pulsed on the
 -- pin within the n ticks before is what the wire does at tick n * c + (s - D): its value over row c. So the cell computes
 -- its value of the pins' values. At ticks that are not s modulo n it has no clock. No induction over ticks is needed.
-use Rattle.std.proofs.Common.{◌≡◌, ℕ, suc, ◌+◌, ◌*◌, ◌%◌, Bool, true, false, List, [], ◌∷◌, ◌++◌, map, get_or, refl, sym, ap, subst, ◌∙◌, arith}
-use Rattle.std.specs.Prelude.{Option, Some, None, unwrap_or, ◌==◌, if◌then◌else◌}
+use Rattle.std.proofs.Common.{◌≡◌, ℕ, suc, ◌+◌, ◌*◌, ◌%◌, Bool, true, false, List, [], ◌∷◌, map, get_or, refl, sym, ap, subst, ◌∙◌, arith}
+use Rattle.std.specs.Prelude.{Option, Some, None, unwrap_or, ◌==◌}
 use Rattle.std.proofs.lemmas.Bool.{eqb-true, eq-eqb, true≢false}
 use Rattle.std.proofs.Math.Nat.{mul-add-mod_self_left}
 use Rattle.cell_lib.specs.declared.cell.Cell.{Cell}
 use Rattle.cell_lib.specs.Cell.{cell_value}
 use Rattle.pulse_net.specs.declared.net.Element.{Element}
 use Rattle.pulse_net.specs.declared.net.Element.TheVariants.{Clocked, Split}
-use Rattle.pulse_net.specs.Wires.{Wires, found, carried, input_wires, element_wires, after_elements, input_stage, cell_stage}
+use Rattle.pulse_net.specs.Wires.{Wires, carried, input_wires, element_wires, after_elements, input_stage, cell_stage}
 use Rattle.pulse_net.specs.Pulses.{Signal, silence, pulsed_within, input_signal, on_clock, window_value, cell_signal, spread}
 use Rattle.pulse_net.specs.RowValues.{input_value, stageless_value}
+use Rattle.pulse_net.proofs.Readings.{Related, none, more, related-append, related-found}
 use Rattle.pulse_net.proofs.Windows.{pulsed_within-at_clock}
 use Rattle.pulse_net.proofs.Spread.{spread-row, spread-clocked}
 use Rattle.pulse_net.specs.Wired.{ArriveInTime, ElementInTime, ElementsInTime}
@@ -26,32 +27,18 @@ pub record Carries (n c stage : ℕ) (value : Bool) (signal : Signal) : Type 0 w
   pub clocked : (tick : ℕ) → signal tick ≡ true → tick % n ≡ stage % n
   pub on_time : signal (n * c + stage) ≡ value
 
--- three readings of the same wires, in one order: stages, values over row c, and signals
-pub data Aligned (n c : ℕ) : Wires ℕ → Wires Bool → Wires Signal → Type 0 where
-  none : Aligned n c [] [] []
-  more : (wire stage : ℕ) (value : Bool) (signal : Signal) (stages : Wires ℕ) (values : Wires Bool) (signals : Wires Signal) → Carries n c stage value signal → Aligned n c stages values signals → Aligned n c ((wire, stage) ∷ stages) ((wire, value) ∷ values) ((wire, signal) ∷ signals)
+-- stages, values over row c and signals of the same wires, in one order
+abbrev pub Aligned : ℕ → ℕ → Wires ℕ → Wires Bool → Wires Signal → Type 0
+Aligned n c = Related (Carries n c)
 
 module _ (n c : ℕ) where
-  aligned-append : (a a' : Wires ℕ) (b b' : Wires Bool) (d d' : Wires Signal) → Aligned n c a b d → Aligned n c a' b' d' → Aligned n c (a ++ a') (b ++ b') (d ++ d')
-  aligned-append _ a' _ b' _ d' none q = q
-  aligned-append _ a' _ b' _ d' (more wire s v w a b d h p) q = more wire s v w (a ++ a') (b ++ b') (d ++ d') h (aligned-append a a' b b' d d' p q)
-
-  -- what a wire carries, where it was made
-  pub aligned-found : (a : Wires ℕ) (b : Wires Bool) (d : Wires Signal) (wire stage : ℕ) → Aligned n c a b d → found a wire ≡ Some stage → Carries n c stage (carried false b wire) (carried silence d wire)
-  aligned-found _ _ _ wire stage none e = cc
-  aligned-found _ _ _ wire stage (more other s v w a b d h p) e = by (wire == other) (λ e. aligned-found a b d wire stage p e) e
-    where
-      by : (same : Bool) → (found a wire ≡ Some stage → Carries n c stage (carried false b wire) (carried silence d wire)) → (if same then Some s else found a wire) ≡ Some stage → Carries n c stage (unwrap_or (if same then Some v else found b wire) false) (unwrap_or (if same then Some w else found d wire) silence)
-      by true rest e = let t : s ≡ stage = cc in subst (λ s. Carries n c s v w) t h
-      by false rest e = rest e
-
   -- in the window before its tick a cell sees of each pin what the pin's wire is worth
   windows_are_values : (stages : Wires ℕ) (values : Wires Bool) (signals : Wires Signal) → Aligned n c stages values signals → (user : ℕ) (pins : List ℕ) → ArriveInTime n stages user pins → map (λ pin. pulsed_within pin (n * c + user) n) (map (carried silence signals) pins) ≡ map (carried false values) pins
   windows_are_values stages values signals p user [] h = refl
   windows_are_values stages values signals p user (pin ∷ pins) h =
       let s = h.0.0 in
       let time = h.0.2 in
-      let pulses = aligned-found stages values signals pin s p h.0.1 in
+      let pulses = related-found false silence pin s p h.0.1 in
       let clock : (n * c + s) % n ≡ s % n = mul-add-mod_self_left n c s in
       let one = pulsed_within-at_clock n (carried silence signals pin) (n * c + user) (n * c + s) (λ t e. pulses.clocked t e ∙ sym clock) (omega (arith, time.after)) (omega (arith, time.within)) ∙ pulses.on_time in
       let rest = windows_are_values stages values signals p user pins h.1 in
@@ -75,13 +62,13 @@ module _ (n c : ℕ) where
       more out stage _ _ [] [] [] (cell_carries stages values signals p cell stage pins h) none
   element_carries stages values signals p (Split from left right) h =
       let stage : h.0 ≡ carried 0 stages from = ap (λ o. unwrap_or o 0) (sym h.1) in
-      let source = subst (λ s. Carries n c s (carried false values from) (carried silence signals from)) stage (aligned-found stages values signals from h.0 p h.1) in
+      let source = subst (λ s. Carries n c s (carried false values from) (carried silence signals from)) stage (related-found false silence from h.0 p h.1) in
       more left _ _ _ _ _ _ source (more right _ _ _ [] [] [] source none)
 
   pub elements_carry : (elements : List Element) (stages : Wires ℕ) (values : Wires Bool) (signals : Wires Signal) → Aligned n c stages values signals → ElementsInTime n stages elements → Aligned n c (after_elements 0 cell_stage stages elements) (after_elements false stageless_value values elements) (after_elements silence (cell_signal n) signals elements)
   elements_carry [] stages values signals p h = p
   elements_carry (element ∷ elements) stages values signals p h =
-      elements_carry elements _ _ _ (aligned-append stages _ values _ signals _ p (element_carries stages values signals p element h.0)) h.1
+      elements_carry elements _ _ _ (related-append p (element_carries stages values signals p element h.0)) h.1
 
 -- an input pulses at the first tick of the epoch of each row that has it
 pub inputs_carry : (k c : ℕ) (rows : List (List Bool)) (inputs : List (Option ℕ)) (place : ℕ) → Aligned (suc k) c (input_wires input_stage place inputs) (input_wires (input_value (get_or rows c [])) place inputs) (input_wires (input_signal (spread (suc k) rows)) place inputs)

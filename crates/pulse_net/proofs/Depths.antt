@@ -1,19 +1,20 @@
 -- Stages, depths and drivers of the same wires: each stands at its driver's stage or behind it, by n ticks a DRO at most,
 -- and it is no deeper than its driver has DROs.
-use Rattle.std.proofs.Common.{◌≡◌, ◌<◌, ◌≤◌, ◌+◌, ◌*◌, ℕ, Bool, true, false, nat_eq, List, [], ◌∷◌, ◌++◌, cond, length, map, get_or, refl, sym, ap, subst, ◌∙◌, arith, append_assoc}
-use Rattle.std.specs.Prelude.{Option, Some, None, unwrap_or, ◌==◌, if◌then◌else◌, is_some, flat_map, option_to_list, ⊤}
+use Rattle.std.proofs.Common.{◌≡◌, ◌<◌, ◌≤◌, ◌+◌, ◌*◌, ℕ, nat_eq, List, [], ◌∷◌, ◌++◌, cond, length, map, get_or, refl, sym, ap, subst, ◌∙◌, arith, append_assoc}
+use Rattle.std.specs.Prelude.{Option, Some, None, unwrap_or, flat_map, option_to_list, ⊤}
 use Rattle.std.specs.List.{IsDistinct, AllByRecursion}
 use Rattle.std.specs.Map.{keys_of}
 use Rattle.std.proofs.lemmas.List.{append-nil, length_push, get_or_append_left, get_or_push}
 use Rattle.std.proofs.lemmas.List.Elements.{recursion_from_All}
 use Rattle.std.proofs.lemmas.List.Sums.{sum_by_push}
 use Rattle.cell_lib.specs.declared.cell.Cell.{Cell}
-use Rattle.cell_lib.specs.declared.cell.Cell.TheVariants.{Dro, Not, And, Or, Xor}
+use Rattle.cell_lib.specs.declared.cell.Cell.TheVariants.{Dro}
 use Rattle.gate_net.specs.declared.row.Driver.{Driver}
 use Rattle.gate_net.specs.declared.row.Driver.TheVariants.{Input, Gate}
 use Rattle.gate_net.specs.declared.row.GateRow.{GateRow}
 use Rattle.gate_net.specs.Rows.{same_driver}
-use Rattle.gate_net.proofs.RowLemmas.{same_driver-decides}
+use Rattle.gate_net.specs.Entries.{entry_of}
+use Rattle.gate_net.proofs.CallerLemmas.{same_driver-decides}
 use Rattle.pulse_net.specs.declared.net.Element.{Element}
 use Rattle.pulse_net.specs.declared.net.Element.TheVariants.{Clocked, Split}
 use Rattle.pulse_net.specs.declared.net.PulseNet.{PulseNet}
@@ -21,8 +22,9 @@ use Rattle.pulse_net.specs.Formed.{HasItsPins}
 use Rattle.pulse_net.specs.Wires.{Wires, found, carried, input_wires, element_wires, after_elements, input_stage, cell_stage, stages_of}
 use Rattle.pulse_net.specs.Validity.{IsValid}
 use Rattle.pulse_net.specs.Wired.{element_makes, ArriveInTime, ElementInTime, ElementsInTime}
-use Rattle.pulse_net.specs.Unfolding.{Unfolding, driver_of, with_wire, make_driven, add_gate, pass_dro, dro_driver, nothing_unfolded, unfold_element, unfold_elements, unfold_inputs, unfolding_of}
-use Rattle.pulse_net.specs.Depths.{input_depth, cell_depth, depths_of, driver_stage, dros_behind, StagesFollowDepths, DrosFollowDepths}
+use Rattle.pulse_net.specs.Unfolding.{Unfolding, driver_of, make_driven, add_gate, pass_dro, dro_driver, nothing_unfolded, unfold_element, unfold_elements, unfold_inputs, unfolding_of}
+use Rattle.pulse_net.specs.Depths.{input_depth, cell_depth, depths_of, dros_behind, StagesFollowDepths, DrosFollowDepths}
+use Rattle.pulse_net.proofs.Readings.{Related, none, related-weaker, related-found, related-absent, related-make}
 use Rattle.pulse_net.proofs.Once.{new_wire, behind_wire, behind_element, keys-inputs}
 use Rattle.pulse_net.proofs.Unbroken.{wired}
 
@@ -33,20 +35,20 @@ HasStage stages (Gate k) = k < length stages
 
 -- with n phases a wire stands at its driver's stage or behind it, by n ticks a DRO at most, and its driver has these DROs
 record IsBehind (n : ℕ) (gates : List ℕ) (dros : List Driver) (stage depth : ℕ) (driver : Driver) : Type 0 where
-  pub there : HasStage gates driver
-  pub after : driver_stage gates driver ≤ stage
-  pub within : stage ≤ driver_stage gates driver + n * depth
-  pub counted : depth ≤ dros_behind dros driver
+  there : HasStage gates driver
+  after : entry_of gates driver ≤ stage
+  within : stage ≤ entry_of gates driver + n * depth
+  counted : depth ≤ dros_behind dros driver
 
--- three readings of the same wires, in one order, where the gates so far have these stages, and the DROs these drivers
-data Follow (n : ℕ) (gates : List ℕ) (dros : List Driver) : Wires ℕ → Wires ℕ → Wires Driver → Type 0 where
-  none : Follow n gates dros [] [] []
-  more : (wire stage depth : ℕ) (driver : Driver) (stages depths : Wires ℕ) (drivers : Wires Driver) → IsBehind n gates dros stage depth driver → Follow n gates dros stages depths drivers → Follow n gates dros ((wire, stage) ∷ stages) ((wire, depth) ∷ depths) ((wire, driver) ∷ drivers)
+-- stages, depths and drivers of the same wires, in one order, where the gates so far have these stages, and the DROs these
+-- drivers
+abbrev Follow : ℕ → List ℕ → List Driver → Wires ℕ → Wires ℕ → Wires Driver → Type 0
+Follow n gates dros = Related (IsBehind n gates dros)
 
 -- what is known of the wires as far as a netlist is unfolded
 record Followed (n : ℕ) (stages depths : Wires ℕ) (so : Unfolding) : Type 0 where
-  pub wires : Follow n so.stages so.dros stages depths so.wires
-  pub each_stage : length so.stages ≡ length so.gates
+  wires : Follow n so.stages so.dros stages depths so.wires
+  each_stage : length so.stages ≡ length so.gates
 
 -- one DRO more is one more behind its driver, and behind no other one less
 counted-more : (dros : List Driver) (last driver : Driver) → dros_behind dros driver ≤ dros_behind (dros ++ last ∷ []) driver
@@ -58,43 +60,13 @@ counted-last dros driver =
     ∙ ap (λ b. dros_behind dros driver + cond b 1 0) ((same_driver-decides driver driver).1 refl)
 
 module _ (n : ℕ) where
-  follow-append : (gates : List ℕ) (dros : List Driver) (a a' b b' : Wires ℕ) (d d' : Wires Driver) → Follow n gates dros a b d → Follow n gates dros a' b' d' → Follow n gates dros (a ++ a') (b ++ b') (d ++ d')
-  follow-append gates dros _ a' _ b' _ d' none q = q
-  follow-append gates dros _ a' _ b' _ d' (more wire s v w a b d h p) q = more wire s v w (a ++ a') (b ++ b') (d ++ d') h (follow-append gates dros a a' b b' d d' p q)
-
-  -- a wire that is made is behind its driver
-  follow-found : (gates : List ℕ) (dros : List Driver) (a b : Wires ℕ) (d : Wires Driver) (wire stage : ℕ) → Follow n gates dros a b d → found a wire ≡ Some stage → IsBehind n gates dros stage (carried 0 b wire) (driver_of d wire)
-  follow-found gates dros _ _ _ wire stage none e = cc
-  follow-found gates dros _ _ _ wire stage (more other s v w a b d h p) e = by (wire == other) (λ e. follow-found gates dros a b d wire stage p e) e
-    where
-      by : (same : Bool) → (found a wire ≡ Some stage → IsBehind n gates dros stage (carried 0 b wire) (driver_of d wire)) → (if same then Some s else found a wire) ≡ Some stage → IsBehind n gates dros stage (unwrap_or (if same then Some v else found b wire) 0) (unwrap_or (if same then Some w else found d wire) (Input 0))
-      by true rest e = let t : s ≡ stage = cc in subst (λ s. IsBehind n gates dros s v w) t h
-      by false rest e = rest e
-
   -- a wire is no deeper than its driver has DROs; one that isn't made has depth 0
   follow-counted : (gates : List ℕ) (dros : List Driver) (a b : Wires ℕ) (d : Wires Driver) (wire : ℕ) → Follow n gates dros a b d → carried 0 b wire ≤ dros_behind dros (driver_of d wire)
-  follow-counted gates dros _ _ _ wire none = omega arith
-  follow-counted gates dros _ _ _ wire (more other s v w a b d h p) = by (wire == other) (follow-counted gates dros a b d wire p)
+  follow-counted gates dros a b d wire p = by (found a wire) refl
     where
-      by : (same : Bool) → carried 0 b wire ≤ dros_behind dros (driver_of d wire) → unwrap_or (if same then Some v else found b wire) 0 ≤ dros_behind dros (unwrap_or (if same then Some w else found d wire) (Input 0))
-      by true rest = h.counted
-      by false rest = rest
-
-  -- and a wire that has no stage has no driver
-  follow-absent : (gates : List ℕ) (dros : List Driver) (a b : Wires ℕ) (d : Wires Driver) (wire : ℕ) → Follow n gates dros a b d → found a wire ≡ None → is_some (found d wire) ≡ false
-  follow-absent gates dros _ _ _ wire none e = refl
-  follow-absent gates dros _ _ _ wire (more other s v w a b d h p) e = by (wire == other) (λ e. follow-absent gates dros a b d wire p e) e
-    where
-      by : (same : Bool) → (found a wire ≡ None → is_some (found d wire) ≡ false) → (if same then Some s else found a wire) ≡ None → is_some (if same then Some w else found d wire) ≡ false
-      by true rest e = cc
-      by false rest e = rest e
-
-  -- a wire that is new is made with its driver
-  follow-make : (gates : List ℕ) (dros : List Driver) (a b : Wires ℕ) (d : Wires Driver) (wire stage depth : ℕ) (driver : Driver) → Follow n gates dros a b d → found a wire ≡ None → IsBehind n gates dros stage depth driver → Follow n gates dros (a ++ (wire, stage) ∷ []) (b ++ (wire, depth) ∷ []) (with_wire d wire driver)
-  follow-make gates dros a b d wire stage depth driver p new h =
-      let put : d ++ (wire, driver) ∷ [] ≡ with_wire d wire driver = sym (ap (λ s. if s then d else d ++ (wire, driver) ∷ []) (follow-absent gates dros a b d wire p new)) in
-      subst (λ (w : Wires Driver). Follow n gates dros (a ++ (wire, stage) ∷ []) (b ++ (wire, depth) ∷ []) w) put
-      (follow-append gates dros a ((wire, stage) ∷ []) b ((wire, depth) ∷ []) d ((wire, driver) ∷ []) p (more wire stage depth driver [] [] [] h none))
+      by : (made : Option ℕ) → found a wire ≡ made → carried 0 b wire ≤ dros_behind dros (driver_of d wire)
+      by None e = let none : carried 0 b wire ≡ 0 = ap (λ o. unwrap_or o 0) (related-absent wire p e).0 in omega arith
+      by (Some stage) e = (related-found 0 (Input 0) wire stage p e).counted
 
   -- one gate more leaves the stages of those before
   behind-more : (gates : List ℕ) (dros : List Driver) (last stage depth : ℕ) (driver : Driver) → IsBehind n gates dros stage depth driver → IsBehind n (gates ++ last ∷ []) dros stage depth driver
@@ -108,10 +80,6 @@ module _ (n : ℕ) where
         within = subst (λ s. stage ≤ s + n * depth) (sym same) h.within;
         counted = h.counted;
       }
-
-  follow-more : (gates : List ℕ) (dros : List Driver) (last : ℕ) (a b : Wires ℕ) (d : Wires Driver) → Follow n gates dros a b d → Follow n (gates ++ last ∷ []) dros a b d
-  follow-more gates dros last _ _ _ none = none
-  follow-more gates dros last _ _ _ (more wire s v w a b d h p) = more wire s v w a b d (behind-more gates dros last s v w h) (follow-more gates dros last a b d p)
 
   -- a gate's wire has the gate's stage
   behind-new : (gates : List ℕ) (dros : List Driver) (stage k : ℕ) → length gates ≡ k → IsBehind n (gates ++ stage ∷ []) dros stage 0 (Gate k)
@@ -129,10 +97,6 @@ module _ (n : ℕ) where
   behind-passed gates dros last stage depth driver h =
       record { there = h.there; after = h.after; within = h.within; counted = omega (arith, h.counted, counted-more dros last driver) }
 
-  follow-passed : (gates : List ℕ) (dros : List Driver) (last : Driver) (a b : Wires ℕ) (d : Wires Driver) → Follow n gates dros a b d → Follow n gates (dros ++ last ∷ []) a b d
-  follow-passed gates dros last _ _ _ none = none
-  follow-passed gates dros last _ _ _ (more wire s v w a b d h p) = more wire s v w a b d (behind-passed gates dros last s v w h) (follow-passed gates dros last a b d p)
-
   -- and it reads its pin 1 to n ticks after the pin's stage
   behind-dro : (gates : List ℕ) (dros : List Driver) (source stage depth : ℕ) (driver : Driver) → IsBehind n gates dros source depth driver → source < stage → stage ≤ source + n → IsBehind n gates (dros ++ driver ∷ []) stage (depth + 1) driver
   behind-dro gates dros source stage depth driver h after within =
@@ -147,7 +111,7 @@ module _ (n : ℕ) where
   -- a new wire with its driver
   make_followed : (a b : Wires ℕ) (so : Unfolding) → Followed n a b so → (wire stage depth : ℕ) (driver : Driver) → found a wire ≡ None → IsBehind n so.stages so.dros stage depth driver → Followed n (a ++ (wire, stage) ∷ []) (b ++ (wire, depth) ∷ []) (make_driven wire driver so)
   make_followed a b so t wire stage depth driver new h =
-      record { wires = follow-make so.stages so.dros a b so.wires wire stage depth driver t.wires new h; each_stage = t.each_stage }
+      record { wires = related-make wire stage depth driver t.wires new h; each_stage = t.each_stage }
 
   -- a DRO
   dro_followed : (a b : Wires ℕ) (so : Unfolding) → Followed n a b so → (stage out : ℕ) (pins : List ℕ) → length pins ≡ 1 → ArriveInTime n a stage pins → found a out ≡ None → Followed n (a ++ (out, stage) ∷ []) (b ++ (out, cell_depth Dro stage (map (carried 0 b) pins)) ∷ []) (pass_dro out (dro_driver (map (driver_of so.wires) pins)) so)
@@ -155,10 +119,10 @@ module _ (n : ℕ) where
   dro_followed a b so t stage out (pin ∷ []) one h new =
       let time = h.0.2 in
       let driver = driver_of so.wires pin in
-      let source = follow-found so.stages so.dros a b so.wires pin h.0.0 t.wires h.0.1 in
+      let source = related-found 0 (Input 0) pin h.0.0 t.wires h.0.1 in
       let passed = behind-dro so.stages so.dros h.0.0 stage (carried 0 b pin) driver source time.after time.within in
-      let later = follow-passed so.stages so.dros driver a b so.wires t.wires in
-      record { wires = follow-make so.stages (so.dros ++ driver ∷ []) a b so.wires out stage (carried 0 b pin + 1) driver later new passed; each_stage = t.each_stage }
+      let later : Follow n so.stages (so.dros ++ driver ∷ []) a b so.wires = related-weaker (behind-passed so.stages so.dros driver) t.wires in
+      record { wires = related-make out stage (carried 0 b pin + 1) driver later new passed; each_stage = t.each_stage }
   dro_followed a b so t stage out (pin ∷ (other ∷ pins)) one h new = absurd (omega arith)
 
   -- a gate
@@ -166,7 +130,7 @@ module _ (n : ℕ) where
   gate_followed a b so t cell stage out pins new =
       let row : GateRow = record { cell = cell; pins = pins } in
       record {
-        wires = follow-make (so.stages ++ stage ∷ []) so.dros a b so.wires out stage 0 (Gate (length so.gates)) (follow-more so.stages so.dros stage a b so.wires t.wires) new (behind-new so.stages so.dros stage (length so.gates) t.each_stage);
+        wires = related-make out stage 0 (Gate (length so.gates)) (related-weaker (behind-more so.stages so.dros stage) t.wires) new (behind-new so.stages so.dros stage (length so.gates) t.each_stage);
         each_stage = omega (arith, t.each_stage, length_push so.stages stage, length_push so.gates row);
       }
 
@@ -176,7 +140,7 @@ module _ (n : ℕ) where
       let v = carried 0 b from in
       let d = driver_of so.wires from in
       let stage : h.0 ≡ s = ap (λ o. unwrap_or o 0) (sym h.1) in
-      let source : IsBehind n so.stages so.dros s v d = subst (λ x. IsBehind n so.stages so.dros x v d) stage (follow-found so.stages so.dros a b so.wires from h.0 t.wires h.1) in
+      let source : IsBehind n so.stages so.dros s v d = subst (λ x. IsBehind n so.stages so.dros x v d) stage (related-found 0 (Input 0) from h.0 t.wires h.1) in
       let one = make_followed a b so t left s v d (new_wire a left (right ∷ rest) distinct) source in
       let new = new_wire (a ++ (left, s) ∷ []) right rest (behind_wire a left s (right ∷ rest) distinct) in
       let two = make_followed (a ++ (left, s) ∷ []) (b ++ (left, v) ∷ []) (make_driven left d so) one right s v d new source in
@@ -186,10 +150,7 @@ module _ (n : ℕ) where
 
   element_followed : (a b : Wires ℕ) (so : Unfolding) → Followed n a b so → (element : Element) → ElementInTime n a element → HasItsPins element → (rest : List ℕ) → IsDistinct nat_eq (keys_of a ++ (element_makes element ++ rest)) → Followed n (a ++ element_wires 0 cell_stage a element) (b ++ element_wires 0 cell_depth b element) (unfold_element element so)
   element_followed a b so t (Clocked Dro stage pins out) h pinned rest distinct = dro_followed a b so t stage out pins pinned h (new_wire a out rest distinct)
-  element_followed a b so t (Clocked Not stage pins out) h pinned rest distinct = gate_followed a b so t Not stage out _ (new_wire a out rest distinct)
-  element_followed a b so t (Clocked And stage pins out) h pinned rest distinct = gate_followed a b so t And stage out _ (new_wire a out rest distinct)
-  element_followed a b so t (Clocked Or stage pins out) h pinned rest distinct = gate_followed a b so t Or stage out _ (new_wire a out rest distinct)
-  element_followed a b so t (Clocked Xor stage pins out) h pinned rest distinct = gate_followed a b so t Xor stage out _ (new_wire a out rest distinct)
+  element_followed a b so t (Clocked cell stage pins out) h pinned rest distinct = gate_followed a b so t cell stage out _ (new_wire a out rest distinct)
   element_followed a b so t (Split from left right) h pinned rest distinct = split_followed a b so t from left right h rest distinct
 
   -- Elements in order.
@@ -227,7 +188,7 @@ followed net valid =
 pub stages_follow_depths : StagesFollowDepths
 stages_follow_depths net wire stage valid made =
     let t = followed net valid in
-    let behind = follow-found net.phases (unfolding_of net).stages (unfolding_of net).dros (stages_of net) (depths_of net) (unfolding_of net).wires wire stage t.wires made in
+    let behind = related-found 0 (Input 0) wire stage t.wires made in
     (behind.after, behind.within)
 
 pub dros_follow_depths : DrosFollowDepths

@@ -4,9 +4,11 @@ use Rattle.std.specs.Prelude.{unwrap_or, flat_map, Result, Ok, Err, IfOk}
 use Rattle.std.specs.List.{IsDistinct, AllByRecursion}
 use Rattle.std.proofs.lemmas.List.{length-map, get_or-map}
 use Rattle.std.proofs.lemmas.List.Elements.{All-from_recursion, recursion_from_All}
+use Rattle.gate_net.specs.declared.row.Driver.TheVariants.{Input}
 use Rattle.gate_net.specs.declared.row.End.TheVariants as ends
 use Rattle.gate_net.specs.Net.{IsEndThere, IsGateNet}
 use Rattle.gate_net.specs.Values.{end_value}
+use Rattle.flow_net.specs.Levels.{phases_of}
 use Rattle.pulse_net.specs.declared.net.Outlet.{Outlet}
 use Rattle.pulse_net.specs.declared.net.Outlet.TheVariants.{Zero, One, Wire}
 use Rattle.pulse_net.specs.declared.net.PulseNet.{PulseNet}
@@ -17,12 +19,13 @@ use Rattle.pulse_net.specs.Validity.{IsValid}
 use Rattle.pulse_net.specs.Wired.{element_makes, OutletsInTime}
 use Rattle.pulse_net.specs.RowValues.{row_values, outlet_value}
 use Rattle.pulse_net.specs.Laws.{row_of, spread_signal}
-use Rattle.pulse_net.specs.Unfolding.{Unfolding, end_of, phases_of, epochs_of, nothing_unfolded, unfold_inputs, unfolding_of, unfolded_from, unfolded, gate_wires}
+use Rattle.pulse_net.specs.Unfolding.{Unfolding, end_of, epochs_of, nothing_unfolded, unfold_inputs, unfolding_of, unfolded_from, unfolded, gate_wires}
 use Rattle.pulse_net.specs.GatePulses.{GatePulses, PulsesAreGateValues}
 use Rattle.pulse_net.proofs.Once.{keys-inputs}
 use Rattle.pulse_net.proofs.Unbroken.{wired}
 use Rattle.pulse_net.proofs.Law.{pulses_are_row_values, reads_are_row_values}
-use Rattle.pulse_net.proofs.Agree.{Agree, none, agree-found}
+use Rattle.pulse_net.proofs.Readings.{none, related-found}
+use Rattle.pulse_net.proofs.Agree.{Agree}
 use Rattle.pulse_net.proofs.Traced.{Traced}
 use Rattle.pulse_net.proofs.Driven.{gates-inputs, gates-elements}
 use Rattle.pulse_net.proofs.Unfolds.{elements_traced, inputs_traced}
@@ -41,7 +44,7 @@ nothing_traced inputs bits = record {
 }
 
 -- a valid netlist, unfolded
-pub traced : (net : PulseNet) → IsValid net → (bits : List Bool) → Traced (length net.inputs) bits (stages_of net) (row_values net bits) (unfolding_of net) (gate_wires net)
+traced : (net : PulseNet) → IsValid net → (bits : List Bool) → Traced (length net.inputs) bits (stages_of net) (row_values net bits) (unfolding_of net) (gate_wires net)
 traced net valid bits =
     let w = wired net valid.unbroken in
     let start = inputs_traced (length net.inputs) bits [] [] nothing_unfolded [] (nothing_traced (length net.inputs) bits) net.inputs 0 (omega arith) (flat_map element_makes net.elements) w.made_once in
@@ -53,9 +56,9 @@ ends_there : (inputs : ℕ) (bits : List Bool) (a : Wires ℕ) (b : Wires Bool) 
 ends_there inputs bits a b so p n user [] h = tt
 ends_there inputs bits a b so p n user (Zero ∷ outlets) h = (tt, ends_there inputs bits a b so p n user outlets h.1)
 ends_there inputs bits a b so p n user (One ∷ outlets) h = (tt, ends_there inputs bits a b so p n user outlets h.1)
-ends_there inputs bits a b so p n user (Wire wire ∷ outlets) h = ((agree-found inputs bits so.gates a b so.wires wire h.0.0 p h.0.1).there, ends_there inputs bits a b so p n user outlets h.1)
+ends_there inputs bits a b so p n user (Wire wire ∷ outlets) h = ((related-found false (Input 0) wire h.0.0 p h.0.1).there, ends_there inputs bits a b so p n user outlets h.1)
 
-pub is_gate_net : (net : PulseNet) → IsValid net → length net.elements < 2 ^ 31 → length net.outputs < 2 ^ 31 → IsGateNet (unfolded net).gates
+is_gate_net : (net : PulseNet) → IsValid net → length net.elements < 2 ^ 31 → length net.outputs < 2 ^ 31 → IsGateNet (unfolded net).gates
 is_gate_net net valid few many =
     let so = unfolding_of net in
     let t = traced net valid [] in
@@ -101,7 +104,7 @@ outlet_values net bits p n user [] output h = refl
 outlet_values net bits p n user (Zero ∷ outlets) zero h = refl
 outlet_values net bits p n user (One ∷ outlets) zero h = refl
 outlet_values net bits p n user (Wire wire ∷ outlets) zero h =
-    (agree-found (length net.inputs) bits (unfolding_of net).gates (stages_of net) (row_values net bits) (unfolding_of net).wires wire h.0.0 p h.0.1).worth
+    (related-found false (Input 0) wire h.0.0 p h.0.1).worth
 outlet_values net bits p n user (outlet ∷ outlets) (suc output) h = outlet_values net bits p n user outlets output h.1
 
 pub pulses_are_gate_values : (net : PulseNet) → IsValid net → PulsesAreGateValues net (unfolded net)

@@ -16,7 +16,8 @@ use Rattle.pulse_net.specs.Laws.{PulsesAreRowValues, ReadsAreRowValues}
 use Rattle.pulse_net.proofs.Windows.{pulsed_within-at_clock, pulsed_within-tick}
 use Rattle.pulse_net.specs.Wired.{ElementsInTime, OutletInTime, OutletsInTime}
 use Rattle.pulse_net.proofs.Unbroken.{wired}
-use Rattle.pulse_net.proofs.Carried.{Aligned, aligned-found, elements_carry, inputs_carry}
+use Rattle.pulse_net.proofs.Readings.{related-found}
+use Rattle.pulse_net.proofs.Carried.{Aligned, elements_carry, inputs_carry}
 
 -- each wire carries its row value, where the sources of all elements are made in time
 carry : (n : ℕ) → 1 ≤ n → (rows : List (List Bool)) (c : ℕ) (inputs : List (Option ℕ)) (elements : List Element) → ElementsInTime n (input_wires input_stage 0 inputs) elements → Aligned n c (after_elements 0 cell_stage (input_wires input_stage 0 inputs) elements) (after_elements false stageless_value (input_wires (input_value (get_or rows c [])) 0 inputs) elements) (after_elements silence (cell_signal n) (input_wires (input_signal (spread n rows)) 0 inputs) elements)
@@ -35,7 +36,7 @@ outlet_reads n some c (suc before) late stages values signals p One h =
 outlet_reads n some c latency late stages values signals p (Wire wire) h =
     let s = h.0 in
     let time = h.2 in
-    let pulses = aligned-found n c stages values signals wire s p h.1 in
+    let pulses = related-found false silence wire s p h.1 in
     let clock : (n * c + s) % n ≡ s % n = mul-add-mod_self_left n c s in
     let e : n * (c + latency) ≡ n * c + n * latency = grind arith in
     pulsed_within-at_clock n (carried silence signals wire) (n * (c + latency)) (n * c + s) (λ t q. pulses.clocked t q ∙ sym clock) (omega (arith, time.after)) (omega (arith, time.within)) ∙ pulses.on_time
@@ -51,7 +52,7 @@ module _ (net : PulseNet) (valid : IsValid net) where
 
 pub pulses_are_row_values : PulsesAreRowValues
 pulses_are_row_values net rows wire stage valid made =
-    let at = λ (c : ℕ). aligned-found net.phases c (stages_of net) (row_values net (get_or rows c [])) (signals_of net (spread net.phases rows)) wire stage (aligned-valid net valid rows c) made in
+    let at = λ (c : ℕ). related-found false silence wire stage (aligned-valid net valid rows c) made in
     record { clocked = λ tick pulse. (at 0).clocked tick pulse; on_time = λ c within. (at c).on_time }
 
 pub reads_are_row_values : ReadsAreRowValues

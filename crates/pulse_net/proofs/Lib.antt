@@ -1,18 +1,21 @@
+pub mod CallerLemmas
 mod Examples
 mod Windows
 mod Spread
-pub mod Steps
-pub mod Once
-pub mod Unbroken
+mod Steps
+mod Once
+mod Unbroken
 mod Least
+mod Readings
 mod Carried
-pub mod Law
-pub mod Driven
+mod Law
+mod Driven
 mod Tables
-pub mod Dros
+mod Dros
 mod Agree
-pub mod Traced
+mod Traced
 mod Unfolds
-pub mod GateLaw
+mod GateLaw
 mod Depths
 mod UnfoldExamples
+mod MajorityExamples

@@ -1,38 +1,26 @@
 -- Lists in which no wire stands twice, and the wires of a table.
-use Rattle.std.proofs.Common.{◌≡◌, ℕ, Bool, true, false, cond, nat_eq, ◌||◌, ◌+◌, List, [], ◌∷◌, ◌++◌, refl, sym, ap, subst, ◌∙◌, ⊎_elim, append_assoc}
+use Rattle.std.proofs.Common.{◌≡◌, ℕ, Bool, true, false, cond, nat_eq, ◌+◌, List, [], ◌∷◌, ◌++◌, refl, sym, ap, subst, ◌∙◌, ⊎_elim, append_assoc}
 use Rattle.std.specs.Prelude.{Option, Some, None, flat_map, option_to_list}
-use Rattle.std.specs.List.{IsDistinct, AllByRecursion}
+use Rattle.std.specs.List.{IsDistinct}
 use Rattle.std.specs.Map.{keys_of}
 use Rattle.std.specs.Cmp.{nat_eq_equiv}
 use Rattle.std.proofs.lemmas.Bool.{or_cases, or_from, or_left, or_right, true≢false, eqb-true}
 use Rattle.std.proofs.lemmas.List.{append-nil, map-append}
 use Rattle.std.proofs.lemmas.Map.Keys.{IsDistinct-head, IsDistinct-tail}
+use Rattle.net_base.proofs.CallerLemmas.{lookup-absent, AllByRecursion-middle}
 use Rattle.pulse_net.specs.declared.net.Element.{Element}
 use Rattle.pulse_net.specs.declared.net.Element.TheVariants.{Clocked, Split}
 use Rattle.pulse_net.specs.declared.net.PulseNet.{PulseNet}
 use Rattle.pulse_net.specs.Wires.{Wires, found, input_wires, element_wires, after_elements, input_stage, cell_stage, stages_of}
-use Rattle.pulse_net.specs.Validity.{is_among, lesser, with_unused, least_unused}
+use Rattle.net_base.specs.Keys.{is_among}
+use Rattle.pulse_net.specs.Validity.{lesser, with_unused, least_unused}
 use Rattle.pulse_net.specs.Wired.{element_makes, makes_of}
 
--- an element of a list with something before and after it
-all-at : (P : ℕ → Type 0) (xs ys : List ℕ) (y : ℕ) → AllByRecursion P (xs ++ y ∷ ys) → P y
-all-at P [] ys y h = h.0
-all-at P (x ∷ xs) ys y h = all-at P xs ys y h.1
-
 -- where no wire stands twice, the next one is not among those before it
-pub is_among-next : (xs ys : List ℕ) (y : ℕ) → IsDistinct nat_eq (xs ++ y ∷ ys) → is_among xs y ≡ false
+pub is_among-next : (xs ys : List ℕ) (y : ℕ) → IsDistinct nat_eq (xs ++ y ∷ ys) → is_among nat_eq y xs ≡ false
 is_among-next [] ys y h = refl
 is_among-next (x ∷ xs) ys y h =
-    or_from (nat_eq y x) (is_among xs y) (nat_eq_equiv.symm y x ∙ all-at (λ z. nat_eq x z ≡ false) xs ys y (IsDistinct-head nat_eq x (xs ++ y ∷ ys) h)) (is_among-next xs ys y (IsDistinct-tail nat_eq x (xs ++ y ∷ ys) h))
-
--- a wire that is not among a table's wires isn't found
-pub found-absent : {A : Type 0} (wires : Wires A) (wire : ℕ) → is_among (keys_of wires) wire ≡ false → found wires wire ≡ None
-found-absent [] wire h = refl
-found-absent (one ∷ wires) wire h = by (nat_eq wire one.0) (found-absent wires wire) h
-  where
-    by : (here : Bool) → (is_among (keys_of wires) wire ≡ false → found wires wire ≡ None) → (here || is_among (keys_of wires) wire) ≡ false → cond here (Some one.1) (found wires wire) ≡ None
-    by true rest e = absurd (true≢false e)
-    by false rest e = rest e
+    or_from (nat_eq y x) (is_among nat_eq y xs) (nat_eq_equiv.symm y x ∙ AllByRecursion-middle (λ z. nat_eq x z ≡ false) xs ys y (IsDistinct-head nat_eq x (xs ++ y ∷ ys) h)) (is_among-next xs ys y (IsDistinct-tail nat_eq x (xs ++ y ∷ ys) h))
 
 pub keys-element : (made : Wires ℕ) (element : Element) → keys_of (element_wires 0 cell_stage made element) ≡ element_makes element
 keys-element made (Clocked cell stage pins out) = refl
@@ -58,7 +46,7 @@ keys-stages net =
 
 -- the next wire is new, where no wire is made twice
 pub new_wire : (a : Wires ℕ) (wire : ℕ) (rest : List ℕ) → IsDistinct nat_eq (keys_of a ++ wire ∷ rest) → found a wire ≡ None
-new_wire a wire rest h = found-absent a wire (is_among-next (keys_of a) rest wire h)
+new_wire a wire rest h = lookup-absent (nat_eq wire) a (is_among-next (keys_of a) rest wire h)
 
 -- behind a wire that is made
 pub behind_wire : (a : Wires ℕ) (wire stage : ℕ) (rest : List ℕ) → IsDistinct nat_eq (keys_of a ++ wire ∷ rest) → IsDistinct nat_eq (keys_of (a ++ (wire, stage) ∷ []) ++ rest)
@@ -76,19 +64,19 @@ behind_element a element rest h =
 -- where no unused wire is found, each wire is used
 pub record AreUsed (used wires : List ℕ) (least : Option ℕ) : Type 0 where
   pub none : least ≡ None
-  pub each : (wire : ℕ) → is_among wires wire ≡ true → is_among used wire ≡ true
+  pub each : (wire : ℕ) → is_among nat_eq wire wires ≡ true → is_among nat_eq wire used ≡ true
 
 pub least_unused-none : (used : List ℕ) (wires : List ℕ) (least : Option ℕ) → least_unused used least wires ≡ None → AreUsed used wires least
 least_unused-none used [] least h = record { none = h; each = λ wire e. absurd (true≢false (sym e)) }
-least_unused-none used (one ∷ wires) least h = let rest = least_unused-none used wires (with_unused used one least) h in by (is_among used one) refl rest rest.none
+least_unused-none used (one ∷ wires) least h = let rest = least_unused-none used wires (with_unused used one least) h in by (is_among nat_eq one used) refl rest rest.none
   where
-    by : (fine : Bool) → is_among used one ≡ fine → AreUsed used wires (with_unused used one least) → cond fine least (Some (lesser one least)) ≡ None → AreUsed used (one ∷ wires) least
-    by true e rest n = record { none = n; each = λ wire among. ⊎_elim (λ same. ap (is_among used) (eqb-true wire one same) ∙ e) (rest.each wire) (or_cases (nat_eq wire one) (is_among wires wire) among) }
+    by : (fine : Bool) → is_among nat_eq one used ≡ fine → AreUsed used wires (with_unused used one least) → cond fine least (Some (lesser one least)) ≡ None → AreUsed used (one ∷ wires) least
+    by true e rest n = record { none = n; each = λ wire among. ⊎_elim (λ same. ap (λ wire. is_among nat_eq wire used) (eqb-true wire one same) ∙ e) (rest.each wire) (or_cases (nat_eq wire one) (is_among nat_eq wire wires) among) }
     by false e rest n = cc
 
 -- and where each wire is used, none is found
-pub least_unused-used : (used : List ℕ) (wires : List ℕ) → ((wire : ℕ) → is_among wires wire ≡ true → is_among used wire ≡ true) → least_unused used None wires ≡ None
+pub least_unused-used : (used : List ℕ) (wires : List ℕ) → ((wire : ℕ) → is_among nat_eq wire wires ≡ true → is_among nat_eq wire used ≡ true) → least_unused used None wires ≡ None
 least_unused-used used [] h = refl
 least_unused-used used (one ∷ wires) h =
-    let here : is_among used one ≡ true = h one (or_left (nat_eq one one) (is_among wires one) (nat_eq_equiv.refl one)) in
-    ap (λ b. least_unused used (cond b None (Some (lesser one None))) wires) here ∙ least_unused-used used wires (λ wire e. h wire (or_right (nat_eq wire one) (is_among wires wire) e))
+    let here : is_among nat_eq one used ≡ true = h one (or_left (nat_eq one one) (is_among nat_eq one wires) (nat_eq_equiv.refl one)) in
+    ap (λ b. least_unused used (cond b None (Some (lesser one None))) wires) here ∙ least_unused-used used wires (λ wire e. h wire (or_right (nat_eq wire one) (is_among nat_eq wire wires) e))

@@ -1,13 +1,15 @@
 -- What each step of the rules says where it breaks none.
-use Rattle.std.proofs.Common.{◌≡◌, ℕ, ◌+◌, Bool, true, false, List, [], ◌∷◌, ◌++◌, refl, sym, ap, subst, ◌∙◌, append_assoc}
+use Rattle.std.proofs.Common.{◌≡◌, ℕ, ◌+◌, Bool, true, false, List, [], ◌∷◌, ◌++◌, refl, sym, ap, subst, ◌∙◌, append_assoc, nat_eq}
 use Rattle.std.proofs.lemmas.List.{append-nil, map-append}
 use Rattle.std.proofs.lemmas.Map.Keys.{IsDistinct-push}
+use Rattle.std.proofs.lemmas.Map.Made.{is_some-lookup}
 use Rattle.std.specs.List.{IsDistinct}
 use Rattle.std.specs.Map.{keys_of}
 use Rattle.std.specs.Cmp.{nat_eq_equiv}
-use Rattle.std.specs.Prelude.{nat_eq, cond, ◌||◌}
-use Rattle.std.specs.Prelude.{Option, Some, None, Result, Ok, Err, nat_lt, nat_le, unwrap_or, flat_map, ◌*◌}
+use Rattle.std.specs.Prelude.{◌*◌, Option, Some, None, Result, Ok, Err, nat_eq, nat_lt, nat_le, is_some, unwrap_or, flat_map}
 use Rattle.std.proofs.lemmas.Bool.{and_parts, ltb-true, leb-true}
+use Rattle.net_base.specs.Answers.{◌>>=◌}
+use Rattle.net_base.proofs.CallerLemmas.{bind-Ok}
 use Rattle.pulse_net.specs.declared.net.Element.{Element}
 use Rattle.pulse_net.specs.declared.net.Element.TheVariants.{Clocked, Split}
 use Rattle.pulse_net.specs.declared.net.Outlet.{Outlet}
@@ -15,17 +17,13 @@ use Rattle.pulse_net.specs.declared.net.Outlet.TheVariants.{Zero, One, Wire}
 use Rattle.pulse_net.specs.declared.fault.Place.{Place}
 use Rattle.pulse_net.specs.declared.fault.Place.TheVariants.{Input, Element as AtElement, Output}
 use Rattle.pulse_net.specs.declared.fault.Wrong.{Wrong}
-use Rattle.pulse_net.specs.Wires.{Wires, found, carried, input_wires, element_wires, after_elements, input_stage, cell_stage, element_uses, outlet_uses}
+use Rattle.pulse_net.specs.Wires.{found, carried, input_wires, element_wires, after_elements, input_stage, cell_stage, element_uses, outlet_uses}
 use Rattle.pulse_net.specs.Wired.{IsInTime, ArriveInTime, ElementInTime, ElementsInTime, OutletInTime, OutletsInTime}
-use Rattle.pulse_net.specs.Validity.{Wiring, ◌>>=◌, at, is_among, made_once, make_wire, used_once, source_stage, is_gap, with_used, used_in_time, use_wire, use_pins, wire_element, wire_elements, wire_output, wire_outputs, wire_inputs}
-
--- two steps: both break no rule
-pub both_steps : {A B E : Type 0} (r : Result A E) (go : A → Result B E) (b : B) → (r >>= go) ≡ Ok b → (a : A) × (r ≡ Ok a) × (go a ≡ Ok b)
-both_steps (Ok a) go b h = (a, refl, h)
-both_steps (Err e) go b h = cc
+use Rattle.net_base.specs.Keys.{is_among}
+use Rattle.pulse_net.specs.Validity.{Wiring, at, made_once, make_wire, used_once, source_stage, is_gap, with_used, used_in_time, use_wire, use_pins, wire_element, wire_elements, wire_output, wire_outputs, wire_inputs}
 
 -- a step at a place
-pub at-ok : {A : Type 0} (place : Place) (r : Result A Wrong) (a : A) → at place r ≡ Ok a → r ≡ Ok a
+at-ok : {A : Type 0} (place : Place) (r : Result A Wrong) (a : A) → at place r ≡ Ok a → r ≡ Ok a
 at-ok place (Ok x) a h = cc
 at-ok place (Err e) a h = cc
 
@@ -47,15 +45,6 @@ ok_once {E} {wiring} {after} h once = let same : wiring ≡ after = cc in subst 
 ok_used : {E : Type 0} {wiring after : Wiring} → same_result E wiring after → after.used ≡ wiring.used
 ok_used h = cc
 
--- a wire that isn't found is not among the wires
-pub keys_of-absent : {A : Type 0} (wires : Wires A) (wire : ℕ) → found wires wire ≡ None → is_among (keys_of wires) wire ≡ false
-keys_of-absent [] wire h = refl
-keys_of-absent (one ∷ wires) wire h = by (nat_eq wire one.0) (keys_of-absent wires wire) h
-  where
-    by : (here : Bool) → (found wires wire ≡ None → is_among (keys_of wires) wire ≡ false) → cond here (Some one.1) (found wires wire) ≡ None → (here || is_among (keys_of wires) wire) ≡ false
-    by true rest e = cc
-    by false rest e = rest e
-
 -- a wiring in which one more wire is made
 abbrev pub with_made : Wiring → ℕ → ℕ → Wiring
 with_made wiring wire stage = record { made = wiring.made ++ (wire, stage) ∷ []; used = wiring.used }
@@ -68,19 +57,19 @@ is_gap-true phases stage user h =
 once-made : (wiring : Wiring) (wire stage : ℕ) → found wiring.made wire ≡ None → IsOnce wiring → IsOnce (with_made wiring wire stage)
 once-made wiring wire stage new once =
     record {
-      made = subst (IsDistinct nat_eq) (sym (map-append (λ (e : ℕ × ℕ). e.0) wiring.made ((wire, stage) ∷ []))) (IsDistinct-push nat_eq_equiv (keys_of wiring.made) wire once.made (keys_of-absent wiring.made wire new));
+      made = subst (IsDistinct nat_eq) (sym (map-append (λ (e : ℕ × ℕ). e.0) wiring.made ((wire, stage) ∷ []))) (IsDistinct-push nat_eq_equiv (keys_of wiring.made) wire once.made (sym (is_some-lookup (nat_eq wire) wiring.made) ∙ ap is_some new));
       used = once.used;
     }
 
-once-used : (wiring : Wiring) (wire : ℕ) → is_among wiring.used wire ≡ false → IsOnce wiring → IsOnce (with_used wiring wire)
+once-used : (wiring : Wiring) (wire : ℕ) → is_among nat_eq wire wiring.used ≡ false → IsOnce wiring → IsOnce (with_used wiring wire)
 once-used wiring wire unused once =
     record { made = once.made; used = IsDistinct-push nat_eq_equiv wiring.used wire once.used unused }
 
 -- a wire is made that was not made before
-pub record Makes (wiring : Wiring) (wire stage : ℕ) (after : Wiring) : Type 0 where
-  pub new : found wiring.made wire ≡ None
-  pub gives : after ≡ with_made wiring wire stage
-  pub once : IsOnce wiring → IsOnce after
+record Makes (wiring : Wiring) (wire stage : ℕ) (after : Wiring) : Type 0 where
+  new : found wiring.made wire ≡ None
+  gives : after ≡ with_made wiring wire stage
+  once : IsOnce wiring → IsOnce after
 
 made_once-ok : (wiring : Wiring) (wire stage : ℕ) (before : Option ℕ) (after : Wiring) → found wiring.made wire ≡ before → made_once wiring wire stage before ≡ Ok after → Makes wiring wire stage after
 made_once-ok wiring wire stage (Some x) after e h = cc
@@ -88,29 +77,29 @@ made_once-ok wiring wire stage None after e h =
     let gives : after ≡ with_made wiring wire stage = cc in
     record { new = e; gives = gives; once = λ o. subst IsOnce (sym gives) (once-made wiring wire stage e o) }
 
-pub make_wire-ok : (wiring : Wiring) (wire stage : ℕ) (after : Wiring) → make_wire wire stage wiring ≡ Ok after → Makes wiring wire stage after
+make_wire-ok : (wiring : Wiring) (wire stage : ℕ) (after : Wiring) → make_wire wire stage wiring ≡ Ok after → Makes wiring wire stage after
 make_wire-ok wiring wire stage after h = made_once-ok wiring wire stage (found wiring.made wire) after refl h
 
 -- a wire at this stage was made, and isn't used
-pub record IsFree (wiring : Wiring) (wire stage : ℕ) : Type 0 where
-  pub made : found wiring.made wire ≡ Some stage
-  pub unused : is_among wiring.used wire ≡ false
+record IsFree (wiring : Wiring) (wire stage : ℕ) : Type 0 where
+  made : found wiring.made wire ≡ Some stage
+  unused : is_among nat_eq wire wiring.used ≡ false
 
-used_once-ok : (wiring : Wiring) (wire stage : ℕ) (before : Option ℕ) (used : Bool) → found wiring.made wire ≡ before → is_among wiring.used wire ≡ used → used_once wire before used ≡ Ok stage → IsFree wiring wire stage
+used_once-ok : (wiring : Wiring) (wire stage : ℕ) (before : Option ℕ) (used : Bool) → found wiring.made wire ≡ before → is_among nat_eq wire wiring.used ≡ used → used_once wire before used ≡ Ok stage → IsFree wiring wire stage
 used_once-ok wiring wire stage None used e u h = cc
 used_once-ok wiring wire stage (Some x) true e u h = cc
 used_once-ok wiring wire stage (Some x) false e u h = record { made = cc; unused = u }
 
-pub source_stage-ok : (wiring : Wiring) (wire stage : ℕ) → source_stage wiring wire ≡ Ok stage → IsFree wiring wire stage
-source_stage-ok wiring wire stage h = used_once-ok wiring wire stage (found wiring.made wire) (is_among wiring.used wire) refl refl h
+source_stage-ok : (wiring : Wiring) (wire stage : ℕ) → source_stage wiring wire ≡ Ok stage → IsFree wiring wire stage
+source_stage-ok wiring wire stage h = used_once-ok wiring wire stage (found wiring.made wire) (is_among nat_eq wire wiring.used) refl refl h
 
 -- a free wire is used in time
-pub record Uses (phases user : ℕ) (wiring : Wiring) (wire : ℕ) (after : Wiring) : Type 0 where
-  pub stage : ℕ
-  pub free : IsFree wiring wire stage
-  pub in_time : IsInTime phases stage user
-  pub gives : after ≡ with_used wiring wire
-  pub once : IsOnce wiring → IsOnce after
+record Uses (phases user : ℕ) (wiring : Wiring) (wire : ℕ) (after : Wiring) : Type 0 where
+  stage : ℕ
+  free : IsFree wiring wire stage
+  in_time : IsInTime phases stage user
+  gives : after ≡ with_used wiring wire
+  once : IsOnce wiring → IsOnce after
 
 used_in_time-ok : (phases : ℕ) (wiring : Wiring) (wire stage user : ℕ) (ok : Bool) (after : Wiring) → is_gap phases stage user ≡ ok → IsFree wiring wire stage → used_in_time wiring wire stage user ok ≡ Ok after → Uses phases user wiring wire after
 used_in_time-ok phases wiring wire stage user true after e free h =
@@ -118,22 +107,22 @@ used_in_time-ok phases wiring wire stage user true after e free h =
     record { stage = stage; free = free; in_time = is_gap-true phases stage user e; gives = gives; once = λ o. subst IsOnce (sym gives) (once-used wiring wire free.unused o) }
 used_in_time-ok phases wiring wire stage user false after e free h = cc
 
-pub use_wire-ok : (phases user wire : ℕ) (wiring after : Wiring) → use_wire phases user wire wiring ≡ Ok after → Uses phases user wiring wire after
+use_wire-ok : (phases user wire : ℕ) (wiring after : Wiring) → use_wire phases user wire wiring ≡ Ok after → Uses phases user wiring wire after
 use_wire-ok phases user wire wiring after h =
-    let s = both_steps (source_stage wiring wire) (λ stage. used_in_time wiring wire stage user (is_gap phases stage user)) after h in
+    let s = bind-Ok (source_stage wiring wire) (λ stage. used_in_time wiring wire stage user (is_gap phases stage user)) after h in
     used_in_time-ok phases wiring wire s.0 user (is_gap phases s.0 user) after refl (source_stage-ok wiring wire s.0 s.1) s.2
 
 -- the pins of a cell are used
-pub record UsesAll (phases user : ℕ) (wiring : Wiring) (pins : List ℕ) (after : Wiring) : Type 0 where
-  pub in_time : ArriveInTime phases wiring.made user pins
-  pub made : after.made ≡ wiring.made
-  pub used : after.used ≡ wiring.used ++ pins
-  pub once : IsOnce wiring → IsOnce after
+record UsesAll (phases user : ℕ) (wiring : Wiring) (pins : List ℕ) (after : Wiring) : Type 0 where
+  in_time : ArriveInTime phases wiring.made user pins
+  made : after.made ≡ wiring.made
+  used : after.used ≡ wiring.used ++ pins
+  once : IsOnce wiring → IsOnce after
 
-pub use_pins-ok : (phases user : ℕ) (pins : List ℕ) (wiring after : Wiring) → use_pins phases user pins wiring ≡ Ok after → UsesAll phases user wiring pins after
+use_pins-ok : (phases user : ℕ) (pins : List ℕ) (wiring after : Wiring) → use_pins phases user pins wiring ≡ Ok after → UsesAll phases user wiring pins after
 use_pins-ok phases user [] wiring after h = record { in_time = tt; made = ok_made h; used = ok_used h ∙ sym (append-nil wiring.used); once = ok_once h }
 use_pins-ok phases user (pin ∷ pins) wiring after h =
-    let s = both_steps (use_wire phases user pin wiring) (use_pins phases user pins) after h in
+    let s = bind-Ok (use_wire phases user pin wiring) (use_pins phases user pins) after h in
     let one = use_wire-ok phases user pin wiring s.0 s.1 in
     let rest = use_pins-ok phases user pins s.0 after s.2 in
     let same : s.0.made ≡ wiring.made = ap (λ (w : Wiring). w.made) one.gives in
@@ -145,15 +134,15 @@ use_pins-ok phases user (pin ∷ pins) wiring after h =
     }
 
 -- an element uses its sources and makes its wires
-pub record WiresElement (phases : ℕ) (wiring : Wiring) (element : Element) (after : Wiring) : Type 0 where
-  pub in_time : ElementInTime phases wiring.made element
-  pub made : after.made ≡ wiring.made ++ element_wires 0 cell_stage wiring.made element
-  pub used : after.used ≡ wiring.used ++ element_uses element
-  pub once : IsOnce wiring → IsOnce after
+record WiresElement (phases : ℕ) (wiring : Wiring) (element : Element) (after : Wiring) : Type 0 where
+  in_time : ElementInTime phases wiring.made element
+  made : after.made ≡ wiring.made ++ element_wires 0 cell_stage wiring.made element
+  used : after.used ≡ wiring.used ++ element_uses element
+  once : IsOnce wiring → IsOnce after
 
-pub wire_element-ok : (phases : ℕ) (element : Element) (wiring after : Wiring) → wire_element phases element wiring ≡ Ok after → WiresElement phases wiring element after
+wire_element-ok : (phases : ℕ) (element : Element) (wiring after : Wiring) → wire_element phases element wiring ≡ Ok after → WiresElement phases wiring element after
 wire_element-ok phases (Clocked cell stage pins out) wiring after h =
-    let s = both_steps (use_pins phases stage pins wiring) (make_wire out stage) after h in
+    let s = bind-Ok (use_pins phases stage pins wiring) (make_wire out stage) after h in
     let all = use_pins-ok phases stage pins wiring s.0 s.1 in
     let makes = make_wire-ok s.0 out stage after s.2 in
     record {
@@ -163,9 +152,9 @@ wire_element-ok phases (Clocked cell stage pins out) wiring after h =
       once = λ o. makes.once (all.once o);
     }
 wire_element-ok phases (Split from left right) wiring after h =
-    let s = both_steps (source_stage wiring from) (λ stage. make_wire left stage (with_used wiring from) >>= make_wire right stage) after h in
+    let s = bind-Ok (source_stage wiring from) (λ stage. make_wire left stage (with_used wiring from) >>= make_wire right stage) after h in
     let free = source_stage-ok wiring from s.0 s.1 in
-    let t = both_steps (make_wire left s.0 (with_used wiring from)) (make_wire right s.0) after s.2 in
+    let t = bind-Ok (make_wire left s.0 (with_used wiring from)) (make_wire right s.0) after s.2 in
     let one = make_wire-ok (with_used wiring from) left s.0 t.0 t.1 in
     let two = make_wire-ok t.0 right s.0 after t.2 in
     let stage : carried 0 wiring.made from ≡ s.0 = ap (λ o. unwrap_or o 0) free.made in
@@ -186,7 +175,7 @@ pub wire_elements-ok : (phases place : ℕ) (elements : List Element) (wiring af
 wire_elements-ok phases place [] wiring after h =
     record { in_time = tt; made = ok_made h; used = ok_used h ∙ sym (append-nil wiring.used); once = ok_once h }
 wire_elements-ok phases place (element ∷ elements) wiring after h =
-    let s = both_steps (at (AtElement place) (wire_element phases element wiring)) (wire_elements phases (place + 1) elements) after h in
+    let s = bind-Ok (at (AtElement place) (wire_element phases element wiring)) (wire_elements phases (place + 1) elements) after h in
     let one = wire_element-ok phases element wiring s.0 (at-ok (AtElement place) (wire_element phases element wiring) s.0 s.1) in
     let rest = wire_elements-ok phases (place + 1) elements s.0 after s.2 in
     record {
@@ -196,13 +185,13 @@ wire_elements-ok phases place (element ∷ elements) wiring after h =
       once = λ o. rest.once (one.once o);
     }
 
-pub record WiresOutlet (phases user : ℕ) (wiring : Wiring) (outlet : Outlet) (after : Wiring) : Type 0 where
-  pub in_time : OutletInTime phases user wiring.made outlet
-  pub made : after.made ≡ wiring.made
-  pub used : after.used ≡ wiring.used ++ outlet_uses outlet
-  pub once : IsOnce wiring → IsOnce after
+record WiresOutlet (phases user : ℕ) (wiring : Wiring) (outlet : Outlet) (after : Wiring) : Type 0 where
+  in_time : OutletInTime phases user wiring.made outlet
+  made : after.made ≡ wiring.made
+  used : after.used ≡ wiring.used ++ outlet_uses outlet
+  once : IsOnce wiring → IsOnce after
 
-pub wire_output-ok : (phases latency : ℕ) (outlet : Outlet) (wiring after : Wiring) → wire_output phases latency outlet wiring ≡ Ok after → WiresOutlet phases (phases * latency) wiring outlet after
+wire_output-ok : (phases latency : ℕ) (outlet : Outlet) (wiring after : Wiring) → wire_output phases latency outlet wiring ≡ Ok after → WiresOutlet phases (phases * latency) wiring outlet after
 wire_output-ok phases latency Zero wiring after h =
     record { in_time = tt; made = ok_made h; used = ok_used h ∙ sym (append-nil wiring.used); once = ok_once h }
 wire_output-ok phases latency One wiring after h =
@@ -226,7 +215,7 @@ pub wire_outputs-ok : (phases latency place : ℕ) (outlets : List Outlet) (wiri
 wire_outputs-ok phases latency place [] wiring after h =
     record { in_time = tt; made = ok_made h; used = ok_used h ∙ sym (append-nil wiring.used); once = ok_once h }
 wire_outputs-ok phases latency place (outlet ∷ outlets) wiring after h =
-    let s = both_steps (at (Output place) (wire_output phases latency outlet wiring)) (wire_outputs phases latency (place + 1) outlets) after h in
+    let s = bind-Ok (at (Output place) (wire_output phases latency outlet wiring)) (wire_outputs phases latency (place + 1) outlets) after h in
     let one = wire_output-ok phases latency outlet wiring s.0 (at-ok (Output place) (wire_output phases latency outlet wiring) s.0 s.1) in
     let rest = wire_outputs-ok phases latency (place + 1) outlets s.0 after s.2 in
     record {
@@ -247,7 +236,7 @@ wire_inputs-ok place [] wiring after h =
 wire_inputs-ok place (None ∷ inputs) wiring after h =
     let rest = wire_inputs-ok (place + 1) inputs wiring after h in record { made = rest.made; used = rest.used; once = rest.once }
 wire_inputs-ok place (Some wire ∷ inputs) wiring after h =
-    let s = both_steps (at (Input place) (make_wire wire 0 wiring)) (wire_inputs (place + 1) inputs) after h in
+    let s = bind-Ok (at (Input place) (make_wire wire 0 wiring)) (wire_inputs (place + 1) inputs) after h in
     let makes = make_wire-ok wiring wire 0 s.0 (at-ok (Input place) (make_wire wire 0 wiring) s.0 s.1) in
     let rest = wire_inputs-ok (place + 1) inputs s.0 after s.2 in
     record {

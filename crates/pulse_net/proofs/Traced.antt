@@ -1,36 +1,18 @@
 -- The gates of a netlist against its wires, as far as it is unfolded: what is known, and one gate more.
-use Rattle.std.proofs.Common.{◌≡◌, ◌<◌, ◌≤◌, ◌⊎◌, inl, inr, ℕ, Bool, true, false, cond, nat_eq, List, [], ◌∷◌, ◌++◌, length, get_or, sym, ap, ◌∙◌, arith}
-use Rattle.std.specs.Prelude.{Option, Some, None}
+use Rattle.std.proofs.Common.{◌≡◌, ◌<◌, ◌≤◌, ◌⊎◌, inl, inr, ℕ, Bool, false, nat_eq, List, [], ◌∷◌, ◌++◌, length, get_or, sym, ap, ◌∙◌, arith}
+use Rattle.std.specs.Prelude.{Some, None}
 use Rattle.std.specs.Cmp.{nat_eq_equiv}
 use Rattle.std.proofs.lemmas.Bool.{cases_lt}
 use Rattle.std.proofs.lemmas.List.{length_push, get_or_append_left, get_or_push}
+use Rattle.net_base.proofs.CallerLemmas.{lookup-found, lookup-push}
 use Rattle.gate_net.specs.declared.row.GateRow.{GateRow}
 use Rattle.gate_net.specs.Net.{IsGate, AreGates}
-use Rattle.gate_net.specs.Values.{gate_value}
-use Rattle.gate_net.proofs.NetLemmas.{AreGates-push}
+use Rattle.gate_net.specs.declared.row.Driver.TheVariants.{Gate}
+use Rattle.gate_net.specs.Values.{gate_value, values_by}
+use Rattle.gate_net.proofs.CallerLemmas.{AreGates-push, driver-more, value-new}
 use Rattle.pulse_net.specs.Wires.{Wires, found}
 use Rattle.pulse_net.specs.Unfolding.{Unfolding}
-use Rattle.pulse_net.proofs.Agree.{values_by, Agree, value-more, value-new}
-
--- what was found stays found
-pub found-append : {A : Type 0} (a b : Wires A) (wire : ℕ) (x : A) → found a wire ≡ Some x → found (a ++ b) wire ≡ Some x
-found-append [] b wire x e = cc
-found-append (one ∷ a) b wire x e = by (nat_eq wire one.0) (λ e. found-append a b wire x e) e
-  where
-    by : (same : Bool) → (found a wire ≡ Some x → found (a ++ b) wire ≡ Some x) → cond same (Some one.1) (found a wire) ≡ Some x → cond same (Some one.1) (found (a ++ b) wire) ≡ Some x
-    by true rest e = e
-    by false rest e = rest e
-
--- a new wire is found
-found-new : {A : Type 0} (a : Wires A) (wire : ℕ) (x : A) → found a wire ≡ None → found (a ++ (wire, x) ∷ []) wire ≡ Some x
-found-new {A} [] wire x e =
-    let none : Option A = None in
-    ap (λ s. cond s (Some x) none) (nat_eq_equiv.refl wire)
-found-new (one ∷ a) wire x e = by (nat_eq wire one.0) (λ e. found-new a wire x e) e
-  where
-    by : (same : Bool) → (found a wire ≡ None → found (a ++ (wire, x) ∷ []) wire ≡ Some x) → cond same (Some one.1) (found a wire) ≡ None → cond same (Some one.1) (found (a ++ (wire, x) ∷ []) wire) ≡ Some x
-    by true rest e = cc
-    by false rest e = rest e
+use Rattle.pulse_net.proofs.Agree.{Agree}
 
 -- The gates so far are well formed, and the wire of each is made at the gate's stage and has the gate's value.
 pub record GatesKnown (inputs : ℕ) (bits : List Bool) (gates : List GateRow) (stages outs : List ℕ) (made : Wires ℕ) (values : Wires Bool) : Type 0 where
@@ -52,8 +34,8 @@ module _ (inputs : ℕ) (bits : List Bool) where
     formed = h.formed;
     each_stage = h.each_stage;
     each_wire = h.each_wire;
-    staged = λ k within. found-append a a' (get_or outs k 0) (get_or stages k 0) (h.staged k within);
-    valued = λ k within. found-append b b' (get_or outs k 0) (get_or (values_by bits gates) k false) (h.valued k within);
+    staged = λ k within. lookup-found (nat_eq (get_or outs k 0)) a a' (get_or stages k 0) (h.staged k within);
+    valued = λ k within. lookup-found (nat_eq (get_or outs k 0)) b b' (get_or (values_by bits gates) k false) (h.valued k within);
   }
 
   -- a gate more, with its stage and its new wire
@@ -78,15 +60,15 @@ module _ (inputs : ℕ) (bits : List Bool) where
       at_stage : (k : ℕ) → k < length (gates ++ row ∷ []) → (k < length gates) ⊎ (length gates ≤ k) → found (a ++ (out, stage) ∷ []) (get_or (outs ++ out ∷ []) k 0) ≡ Some (get_or (stages ++ stage ∷ []) k 0)
       at_stage k within (inl before) =
           let same : get_or (stages ++ stage ∷ []) k 0 ≡ get_or stages k 0 = get_or_append_left stages (stage ∷ []) 0 k (omega (arith, h.each_stage)) in
-          ap (found (a ++ (out, stage) ∷ [])) (before_out k before) ∙ found-append a ((out, stage) ∷ []) (get_or outs k 0) (get_or stages k 0) (h.staged k before) ∙ ap Some (sym same)
+          ap (found (a ++ (out, stage) ∷ [])) (before_out k before) ∙ lookup-found (nat_eq (get_or outs k 0)) a ((out, stage) ∷ []) (get_or stages k 0) (h.staged k before) ∙ ap Some (sym same)
       at_stage k within (inr behind) =
           let last : length gates ≡ k = omega (arith, length_push gates row) in
           let same : get_or (stages ++ stage ∷ []) k 0 ≡ stage = get_or_push stages stage 0 k (omega (arith, h.each_stage)) in
-          ap (found (a ++ (out, stage) ∷ [])) (last_out k last) ∙ found-new a out stage no_stage ∙ ap Some (sym same)
+          ap (found (a ++ (out, stage) ∷ [])) (last_out k last) ∙ lookup-push (nat_eq out) a out stage (nat_eq_equiv.refl out) no_stage ∙ ap Some (sym same)
 
       at_value : (k : ℕ) → k < length (gates ++ row ∷ []) → (k < length gates) ⊎ (length gates ≤ k) → found (b ++ (out, gate_value bits (values_by bits gates) row) ∷ []) (get_or (outs ++ out ∷ []) k 0) ≡ Some (get_or (values_by bits (gates ++ row ∷ [])) k false)
       at_value k within (inl before) =
-          ap (found (b ++ (out, value) ∷ [])) (before_out k before) ∙ found-append b ((out, value) ∷ []) (get_or outs k 0) (get_or (values_by bits gates) k false) (h.valued k before) ∙ ap Some (sym (value-more inputs bits gates row k before))
+          ap (found (b ++ (out, value) ∷ [])) (before_out k before) ∙ lookup-found (nat_eq (get_or outs k 0)) b ((out, value) ∷ []) (get_or (values_by bits gates) k false) (h.valued k before) ∙ ap Some (sym (driver-more bits inputs gates (row ∷ []) (Gate k) before))
       at_value k within (inr behind) =
           let last : length gates ≡ k = omega (arith, length_push gates row) in
-          ap (found (b ++ (out, value) ∷ [])) (last_out k last) ∙ found-new b out value no_value ∙ ap Some (sym (value-new inputs bits gates row k last))
+          ap (found (b ++ (out, value) ∷ [])) (last_out k last) ∙ lookup-push (nat_eq out) b out value (nat_eq_equiv.refl out) no_value ∙ ap Some (sym (value-new bits gates row k last))

@@ -8,6 +8,8 @@ use Rattle.std.specs.Map.{keys_of}
 use Rattle.std.proofs.lemmas.Bool.{true≢false, and_from, lt-ltb, le-leb}
 use Rattle.std.proofs.lemmas.Map.Keys.{IsDistinct-from_apart}
 use Rattle.std.proofs.lemmas.List.{append-nil, map-append}
+use Rattle.net_base.specs.Answers.{◌>>=◌}
+use Rattle.net_base.proofs.CallerLemmas.{bind-Ok, lookup-absent}
 use Rattle.pulse_net.specs.declared.net.Element.{Element}
 use Rattle.pulse_net.specs.declared.net.Element.TheVariants.{Clocked, Split}
 use Rattle.pulse_net.specs.declared.net.Outlet.{Outlet}
@@ -15,11 +17,12 @@ use Rattle.pulse_net.specs.declared.net.Outlet.TheVariants.{Zero, One, Wire}
 use Rattle.pulse_net.specs.declared.net.PulseNet.{PulseNet}
 use Rattle.pulse_net.specs.declared.fault.Place.TheVariants.{Input, Element as AtElement, Output}
 use Rattle.pulse_net.specs.Wires.{Wires, found, carried, input_wires, element_wires, after_elements, input_stage, cell_stage, stages_of, uses_of, element_uses, outlet_uses}
-use Rattle.pulse_net.specs.Validity.{Wiring, ◌>>=◌, at, is_among, made_once, make_wire, used_once, source_stage, is_gap, with_used, used_in_time, use_wire, use_pins, wire_element, wire_output, wire_inputs, wire_elements, wire_outputs, unwired, check_latency, has_wire, least_unused, close_at, close_wires, wiring_of}
+use Rattle.net_base.specs.Keys.{is_among}
+use Rattle.pulse_net.specs.Validity.{Wiring, at, made_once, make_wire, used_once, source_stage, is_gap, with_used, used_in_time, use_wire, use_pins, wire_element, wire_output, wire_inputs, wire_elements, wire_outputs, unwired, check_latency, has_wire, least_unused, close_at, close_wires, wiring_of}
 use Rattle.pulse_net.specs.Wired.{element_makes, makes_of, ArrivesInTime, ArriveInTime, ElementInTime, ElementsInTime, OutletInTime, OutletsInTime, IsWired}
 use Rattle.pulse_net.specs.Laws.{UnbrokenIsWired}
-use Rattle.pulse_net.proofs.Once.{is_among-next, found-absent, keys-stages, keys-element, keys-inputs, least_unused-none, least_unused-used}
-use Rattle.pulse_net.proofs.Steps.{both_steps, with_made, IsOnce, WiresInputs, WiresElements, WiresOutlets, wire_inputs-ok, wire_elements-ok, wire_outputs-ok}
+use Rattle.pulse_net.proofs.Once.{is_among-next, keys-stages, keys-element, keys-inputs, least_unused-none, least_unused-used}
+use Rattle.pulse_net.proofs.Steps.{with_made, IsOnce, WiresInputs, WiresElements, WiresOutlets, wire_inputs-ok, wire_elements-ok, wire_outputs-ok}
 
 -- ---- from the fold
 
@@ -52,10 +55,10 @@ passes net wiring h =
     let elements = inputs >>= wire_elements n 0 net.elements in
     let outputs = elements >>= wire_outputs n net.latency 0 net.outputs in
     let fine = net.latency == 1 || list_any has_wire net.outputs in
-    let e = both_steps (outputs >>= check_latency net.latency fine) close_wires wiring h in
-    let d = both_steps outputs (check_latency net.latency fine) e.0 e.1 in
-    let c = both_steps elements (wire_outputs n net.latency 0 net.outputs) d.0 d.1 in
-    let b = both_steps inputs (wire_elements n 0 net.elements) c.0 c.1 in
+    let e = bind-Ok (outputs >>= check_latency net.latency fine) close_wires wiring h in
+    let d = bind-Ok outputs (check_latency net.latency fine) e.0 e.1 in
+    let c = bind-Ok elements (wire_outputs n net.latency 0 net.outputs) d.0 d.1 in
+    let b = bind-Ok inputs (wire_elements n 0 net.elements) c.0 c.1 in
     let kept = latency-kept net.latency fine d.0 e.0 d.2 in
     let close = closed e.0 (least_unused e.0.used None (keys_of e.0.made)) wiring e.2 in
     record {
@@ -94,7 +97,7 @@ module _ (net : PulseNet) (p : Passes net) where
         outputs = subst (λ m. OutletsInTime net.phases (net.phases * net.latency) m net.outputs) elements-made p.by_outputs.in_time;
         made_once = subst (IsDistinct nat_eq) all-made all-once.made;
         used_once = subst (IsDistinct nat_eq) all-used all-once.used;
-        all_used = λ wire made. ap (λ u. is_among u wire) (sym all-used) ∙ used wire (ap (λ m. is_among m wire) all-made ∙ made);
+        all_used = λ wire made. ap (λ u. is_among nat_eq wire u) (sym all-used) ∙ used wire (ap (λ m. is_among nat_eq wire m) all-made ∙ made);
         latency = p.latency;
       }
 
@@ -107,14 +110,14 @@ wired net h = let w = ok_value (wiring_of net) h in is_wired net (passes net w.0
 
 -- ---- to the fold
 
-make_wire-fine : (wiring : Wiring) (wire stage : ℕ) → is_among (keys_of wiring.made) wire ≡ false → make_wire wire stage wiring ≡ Ok (with_made wiring wire stage)
-make_wire-fine wiring wire stage new = ap (made_once wiring wire stage) (found-absent wiring.made wire new)
+make_wire-fine : (wiring : Wiring) (wire stage : ℕ) → is_among nat_eq wire (keys_of wiring.made) ≡ false → make_wire wire stage wiring ≡ Ok (with_made wiring wire stage)
+make_wire-fine wiring wire stage new = ap (made_once wiring wire stage) (lookup-absent (nat_eq wire) wiring.made new)
 
-source_stage-fine : (wiring : Wiring) (wire stage : ℕ) → found wiring.made wire ≡ Some stage → is_among wiring.used wire ≡ false → source_stage wiring wire ≡ Ok stage
+source_stage-fine : (wiring : Wiring) (wire stage : ℕ) → found wiring.made wire ≡ Some stage → is_among nat_eq wire wiring.used ≡ false → source_stage wiring wire ≡ Ok stage
 source_stage-fine wiring wire stage made unused =
-    ap (λ o. used_once wire o (is_among wiring.used wire)) made ∙ ap (used_once wire (Some stage)) unused
+    ap (λ o. used_once wire o (is_among nat_eq wire wiring.used)) made ∙ ap (used_once wire (Some stage)) unused
 
-use_wire-fine : (phases user : ℕ) (wiring : Wiring) (wire : ℕ) → ArrivesInTime phases wiring.made user wire → is_among wiring.used wire ≡ false → use_wire phases user wire wiring ≡ Ok (with_used wiring wire)
+use_wire-fine : (phases user : ℕ) (wiring : Wiring) (wire : ℕ) → ArrivesInTime phases wiring.made user wire → is_among nat_eq wire wiring.used ≡ false → use_wire phases user wire wiring ≡ Ok (with_used wiring wire)
 use_wire-fine phases user wiring wire h unused =
     let time = h.2 in
     let gap : is_gap phases h.0 user ≡ true = and_from (nat_lt h.0 user) (nat_le user (h.0 + phases)) (lt-ltb h.0 user time.after) (le-leb user (h.0 + phases) time.within) in
@@ -148,7 +151,7 @@ wire_element-fine phases (Split from left right) to_make to_use wiring h m u =
     let stage : s ≡ carried 0 wiring.made from = ap (λ o. unwrap_or o 0) (sym h.1) in
     let free = is_among-next wiring.used to_use from u in
     let one = with_made (with_used wiring from) left s in
-    let second : is_among (keys_of one.made) right ≡ false = ap (λ k. is_among k right) (keys-made wiring.made left s) ∙ is_among-next (keys_of wiring.made ++ left ∷ []) to_make right (one-more (keys_of wiring.made) left (right ∷ to_make) m) in
+    let second : is_among nat_eq right (keys_of one.made) ≡ false = ap (λ k. is_among nat_eq right k) (keys-made wiring.made left s) ∙ is_among-next (keys_of wiring.made ++ left ∷ []) to_make right (one-more (keys_of wiring.made) left (right ∷ to_make) m) in
     ap (λ r. r >>= λ stage. make_wire left stage (with_used wiring from) >>= make_wire right stage) (source_stage-fine wiring from s h.1 free)
     ∙ ap (λ r. r >>= make_wire right s) (make_wire-fine (with_used wiring from) left s (is_among-next (keys_of wiring.made) (right ∷ to_make) left m))
     ∙ make_wire-fine one right s second
@@ -225,7 +228,7 @@ module _ (net : PulseNet) (h : IsWired net) where
   close-fine : close_wires with_outputs ≡ Ok with_outputs
   unfolding with_outputs
   close-fine =
-      ap (close_at with_outputs) (least_unused-used (uses_of net) (keys_of (stages_of net)) (λ wire among. h.all_used wire (ap (λ m. is_among m wire) (sym (keys-stages net)) ∙ among)))
+      ap (close_at with_outputs) (least_unused-used (uses_of net) (keys_of (stages_of net)) (λ wire among. h.all_used wire (ap (λ m. is_among nat_eq wire m) (sym (keys-stages net)) ∙ among)))
 
   wiring_of-wired : wiring_of net ≡ Ok with_outputs
   wiring_of-wired =

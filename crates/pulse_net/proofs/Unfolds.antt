@@ -3,16 +3,17 @@ use Rattle.std.proofs.Common.{◌≡◌, ◌≢◌, ◌≤◌, ◌+◌, ℕ, Boo
 use Rattle.std.specs.Prelude.{Option, Some, None, flat_map, option_to_list, ◌&&◌}
 use Rattle.std.specs.List.{IsDistinct, AllByRecursion}
 use Rattle.std.specs.Map.{keys_of}
+use Rattle.std.proofs.Math.Bool.{and-true}
 use Rattle.std.proofs.lemmas.List.{append-nil, length-map}
 use Rattle.std.proofs.lemmas.List.Elements.{All-from_recursion}
 use Rattle.cell_lib.specs.declared.cell.Cell.{Cell}
-use Rattle.cell_lib.specs.declared.cell.Cell.TheVariants.{Dro, Not, And, Or, Xor}
+use Rattle.cell_lib.specs.declared.cell.Cell.TheVariants.{Dro}
 use Rattle.cell_lib.specs.Cell.{cell_value, arity_of}
 use Rattle.gate_net.specs.declared.row.Driver.{Driver}
 use Rattle.gate_net.specs.declared.row.Driver.TheVariants.{Input, Gate}
 use Rattle.gate_net.specs.declared.row.GateRow.{GateRow}
 use Rattle.gate_net.specs.Net.{IsThere, IsGate}
-use Rattle.gate_net.specs.Values.{gate_value}
+use Rattle.gate_net.specs.Values.{gate_value, values_by}
 use Rattle.pulse_net.specs.declared.net.Element.{Element}
 use Rattle.pulse_net.specs.declared.net.Element.TheVariants.{Clocked, Split}
 use Rattle.pulse_net.specs.Formed.{HasItsPins}
@@ -21,19 +22,15 @@ use Rattle.pulse_net.specs.Wired.{element_makes, ArriveInTime, ElementInTime, El
 use Rattle.pulse_net.specs.RowValues.{input_value, stageless_value}
 use Rattle.pulse_net.specs.Unfolding.{Unfolding, driver_of, make_driven, add_gate, pass_dro, dro_driver, unfold_element, unfold_elements, unfold_inputs, gate_wire}
 use Rattle.pulse_net.proofs.Once.{new_wire, behind_wire, behind_element}
-use Rattle.pulse_net.proofs.Agree.{values_by, IsDriven, agree-found, agree-absent, agree-make, agree-more, driven-new, pins-there, pins-worth}
+use Rattle.pulse_net.proofs.Readings.{related-found, related-absent, related-make}
+use Rattle.pulse_net.proofs.Agree.{IsDriven, agree-more, driven-new, pins-there, pins-worth}
 use Rattle.pulse_net.proofs.Traced.{Traced, gates_known-wires, gates_known-push}
-
--- a DRO has the value of its pin
-one_true : (b : Bool) → (b && true) ≡ b
-one_true true = refl
-one_true false = refl
 
 module _ (inputs : ℕ) (bits : List Bool) where
   -- a new wire with its driver
   make_traced : (a : Wires ℕ) (b : Wires Bool) (so : Unfolding) (outs : List ℕ) → Traced inputs bits a b so outs → (wire stage : ℕ) (value : Bool) (driver : Driver) → found a wire ≡ None → IsDriven inputs bits so.gates value driver → Traced inputs bits (a ++ (wire, stage) ∷ []) (b ++ (wire, value) ∷ []) (make_driven wire driver so) outs
   make_traced a b so outs t wire stage value driver new h = record {
-    wires = agree-make inputs bits so.gates a b so.wires wire stage value driver t.wires new h;
+    wires = related-make wire stage value driver t.wires new h;
     known = gates_known-wires inputs bits so.gates so.stages outs a ((wire, stage) ∷ []) b ((wire, value) ∷ []) t.known;
   }
 
@@ -41,10 +38,10 @@ module _ (inputs : ℕ) (bits : List Bool) where
   dro_traced : (a : Wires ℕ) (b : Wires Bool) (so : Unfolding) (outs : List ℕ) → Traced inputs bits a b so outs → (n stage out : ℕ) (pins : List ℕ) → length pins ≡ 1 → ArriveInTime n a stage pins → found a out ≡ None → Traced inputs bits (a ++ (out, stage) ∷ []) (b ++ (out, stageless_value Dro stage (map (carried false b) pins)) ∷ []) (pass_dro out (dro_driver (map (driver_of so.wires) pins)) so) outs
   dro_traced a b so outs t n stage out [] one h new = absurd (omega arith)
   dro_traced a b so outs t n stage out (pin ∷ []) one h new =
-      let source = agree-found inputs bits so.gates a b so.wires pin h.0.0 t.wires h.0.1 in
-      let passed : IsDriven inputs bits so.gates (carried false b pin && true) (driver_of so.wires pin) = record { there = source.there; worth = one_true (carried false b pin) ∙ source.worth } in
+      let source = related-found false (Input 0) pin h.0.0 t.wires h.0.1 in
+      let passed : IsDriven inputs bits so.gates (carried false b pin && true) (driver_of so.wires pin) = record { there = source.there; worth = and-true (carried false b pin) ∙ source.worth } in
       record {
-        wires = agree-make inputs bits so.gates a b so.wires out stage (carried false b pin && true) (driver_of so.wires pin) t.wires new passed;
+        wires = related-make out stage (carried false b pin && true) (driver_of so.wires pin) t.wires new passed;
         known = gates_known-wires inputs bits so.gates so.stages outs a ((out, stage) ∷ []) b ((out, carried false b pin && true) ∷ []) t.known;
       }
   dro_traced a b so outs t n stage out (pin ∷ (other ∷ pins)) one h new = absurd (omega arith)
@@ -61,8 +58,8 @@ module _ (inputs : ℕ) (bits : List Bool) where
         drivers = All-from_recursion (IsThere inputs (length so.gates)) (map (driver_of so.wires) pins) (pins-there inputs bits so.gates a b so.wires t.wires n stage pins h);
       } in
       let made : Traced inputs bits (a ++ (out, stage) ∷ []) (b ++ (out, value) ∷ []) (add_gate cell stage out (map (driver_of so.wires) pins) so) (outs ++ out ∷ []) = record {
-        wires = agree-make inputs bits (so.gates ++ row ∷ []) a b so.wires out stage value (Gate (length so.gates)) (agree-more inputs bits so.gates row a b so.wires t.wires) new (driven-new inputs bits so.gates row);
-        known = gates_known-push inputs bits so.gates row so.stages outs stage out a b t.known gate new (agree-absent inputs bits so.gates a b so.wires out t.wires new).0;
+        wires = related-make out stage value (Gate (length so.gates)) (agree-more inputs bits so.gates row a b so.wires t.wires) new (driven-new inputs bits so.gates row);
+        known = gates_known-push inputs bits so.gates row so.stages outs stage out a b t.known gate new (related-absent out t.wires new).0;
       } in
       subst (λ (v : Bool). Traced inputs bits (a ++ (out, stage) ∷ []) (b ++ (out, v) ∷ []) (add_gate cell stage out (map (driver_of so.wires) pins) so) (outs ++ out ∷ [])) worth made
 
@@ -75,7 +72,7 @@ module _ (inputs : ℕ) (bits : List Bool) where
       let s = carried 0 a from in
       let v = carried false b from in
       let d = driver_of so.wires from in
-      let source : IsDriven inputs bits so.gates v d = agree-found inputs bits so.gates a b so.wires from h.0 t.wires h.1 in
+      let source : IsDriven inputs bits so.gates v d = related-found false (Input 0) from h.0 t.wires h.1 in
       let one = make_traced a b so outs t left s v d (new_wire a left (right ∷ rest) distinct) source in
       let new = new_wire (a ++ (left, s) ∷ []) right rest (behind_wire a left s (right ∷ rest) distinct) in
       let two = make_traced (a ++ (left, s) ∷ []) (b ++ (left, v) ∷ []) (make_driven left d so) outs one right s v d new source in
@@ -85,10 +82,7 @@ module _ (inputs : ℕ) (bits : List Bool) where
 
   element_traced : (a : Wires ℕ) (b : Wires Bool) (so : Unfolding) (outs : List ℕ) → Traced inputs bits a b so outs → (n : ℕ) (element : Element) → ElementInTime n a element → HasItsPins element → (rest : List ℕ) → IsDistinct nat_eq (keys_of a ++ (element_makes element ++ rest)) → Traced inputs bits (a ++ element_wires 0 cell_stage a element) (b ++ element_wires false stageless_value b element) (unfold_element element so) (outs ++ gate_wire element)
   element_traced a b so outs t n (Clocked Dro stage pins out) h pinned rest distinct = no_gate _ _ _ outs (dro_traced a b so outs t n stage out pins pinned h (new_wire a out rest distinct))
-  element_traced a b so outs t n (Clocked Not stage pins out) h pinned rest distinct = gate_traced a b so outs t n Not stage out pins (λ e. cc) pinned h (new_wire a out rest distinct)
-  element_traced a b so outs t n (Clocked And stage pins out) h pinned rest distinct = gate_traced a b so outs t n And stage out pins (λ e. cc) pinned h (new_wire a out rest distinct)
-  element_traced a b so outs t n (Clocked Or stage pins out) h pinned rest distinct = gate_traced a b so outs t n Or stage out pins (λ e. cc) pinned h (new_wire a out rest distinct)
-  element_traced a b so outs t n (Clocked Xor stage pins out) h pinned rest distinct = gate_traced a b so outs t n Xor stage out pins (λ e. cc) pinned h (new_wire a out rest distinct)
+  element_traced a b so outs t n (Clocked cell stage pins out) h pinned rest distinct = gate_traced a b so outs t n cell stage out pins (λ e. cc) pinned h (new_wire a out rest distinct)
   element_traced a b so outs t n (Split from left right) h pinned rest distinct = no_gate _ _ _ outs (split_traced a b so outs t n from left right h rest distinct)
 
   -- Elements in order. Later gates leave the values of those before as they were, and later wires are other wires.

@@ -9,7 +9,7 @@ multiples_apart : (n a b : ℕ) → a < b → n * a + n ≤ n * b
 multiples_apart n a b h = grind arith
 
 -- two ticks of one clock that are less than an epoch apart are one tick
-pub same_tick : (n a b : ℕ) → a % n ≡ b % n → a < b + n → b < a + n → a ≡ b
+same_tick : (n a b : ℕ) → a % n ≡ b % n → a < b + n → b < a + n → a ≡ b
 same_tick n a b same above below =
     let qa = div-add-mod a n in
     let qb = div-add-mod b n in
@@ -18,7 +18,7 @@ same_tick n a b same above below =
     (cases_order (a / n) (b / n))
 
 -- a pulse at a tick of the window is found
-pub pulsed_within-found : (signal : Signal) (tick window at : ℕ) → at < tick → tick ≤ at + window → signal at ≡ true → pulsed_within signal tick window ≡ true
+pulsed_within-found : (signal : Signal) (tick window at : ℕ) → at < tick → tick ≤ at + window → signal at ≡ true → pulsed_within signal tick window ≡ true
 pulsed_within-found signal zero window at before late pulse = absurd (omega arith)
 pulsed_within-found signal (suc tick) zero at before late pulse = absurd (omega arith)
 pulsed_within-found signal (suc tick) (suc window) at before late pulse =

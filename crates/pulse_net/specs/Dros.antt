@@ -1,19 +1,10 @@
 -- How many DROs a netlist has: counted among its elements, and as they are passed when it is unfolded.
-use Rattle.std.specs.Prelude.{◌≡◌, ℕ, ◌+◌, Bool, true, false, cond, List, [], ◌∷◌}
-use Rattle.cell_lib.specs.declared.cell.Cell.{Cell}
-use Rattle.cell_lib.specs.declared.cell.Cell.TheVariants.{Dro, Not, And, Or, Xor}
+use Rattle.std.specs.Prelude.{◌≡◌, ℕ, ◌+◌, cond, List, [], ◌∷◌}
+use Rattle.cell_lib.specs.Cell.{is_dro}
 use Rattle.pulse_net.specs.declared.net.Element.{Element}
 use Rattle.pulse_net.specs.declared.net.Element.TheVariants.{Clocked, Split}
 use Rattle.pulse_net.specs.declared.net.PulseNet.{PulseNet}
 use Rattle.pulse_net.specs.Unfolding.{unfolded}
-
--- whether a cell is a DRO
-abbrev pub is_dro : Cell → Bool
-is_dro Dro = true
-is_dro Not = false
-is_dro And = false
-is_dro Or = false
-is_dro Xor = false
 
 -- how many DROs there are among these elements
 abbrev pub dros : List Element → ℕ

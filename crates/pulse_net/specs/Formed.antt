@@ -1,12 +1,12 @@
 -- What a netlist is made of, before any rule on its wires.
 use Rattle.std.specs.Prelude.{◌≡◌, ◌≤◌, ℕ, Bool, true, false, length, All, ⊤, slice_index_or}
 use Rattle.cell_lib.specs.Cell.{arity_of}
+use Rattle.flow_net.specs.TheConstants.{MAX_PHASES}
 use Rattle.pulse_net.specs.declared.net.Element.{Element}
 use Rattle.pulse_net.specs.declared.net.Element.TheVariants.{Clocked, Split}
 use Rattle.pulse_net.specs.declared.net.Outlet.{Outlet}
 use Rattle.pulse_net.specs.declared.net.Outlet.TheVariants.{Zero}
 use Rattle.pulse_net.specs.declared.net.PulseNet.{PulseNet}
-use Rattle.pulse_net.specs.declared.net.TheConstants.{MAX_PHASES}
 
 -- a clocked element has as many pins as its cell
 abbrev pub HasItsPins : Element → Type 0

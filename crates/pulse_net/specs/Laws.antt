@@ -1,8 +1,9 @@
 -- What is proved of every netlist: the rules and the pulses, each said twice.
-use Rattle.std.specs.Prelude.{◌≡◌, ℕ, ◌+◌, ◌*◌, ◌%◌, ◌<◌, ◌≤◌, ◌↔◌, Bool, IsTrue, IsFalse, IsOk, List, [], length, slice_index_or, None, Some}
+use Rattle.std.specs.Prelude.{◌≡◌, ℕ, ◌+◌, ◌*◌, ◌%◌, ◌<◌, ◌≤◌, ◌↔◌, Bool, IsTrue, IsFalse, IsOk, List, [], length, slice_index_or, None, Some, nat_eq}
 use Rattle.pulse_net.specs.declared.net.PulseNet.{PulseNet}
 use Rattle.pulse_net.specs.Wires.{found, stages_of}
-use Rattle.pulse_net.specs.Validity.{is_among, least_unused, wiring_of, IsValid}
+use Rattle.net_base.specs.Keys.{is_among}
+use Rattle.pulse_net.specs.Validity.{least_unused, wiring_of, IsValid}
 use Rattle.pulse_net.specs.Wired.{IsWired}
 use Rattle.pulse_net.specs.Pulses.{Signal, signal_of, spread, value_read}
 use Rattle.pulse_net.specs.RowValues.{row_value, output_value}
@@ -13,9 +14,9 @@ UnbrokenIsWired = (net : PulseNet) → IsOk (wiring_of net) ↔ IsWired net
 
 -- a wire is the least of those that are made and aren't used
 pub record IsLeastUnused (used made : List ℕ) (wire : ℕ) : Type 0 where
-  pub is_made : IsTrue (is_among made wire)
-  pub is_unused : IsFalse (is_among used wire)
-  pub is_least : (other : ℕ) → IsTrue (is_among made other) → IsFalse (is_among used other) → wire ≤ other
+  pub is_made : IsTrue (is_among nat_eq wire made)
+  pub is_unused : IsFalse (is_among nat_eq wire used)
+  pub is_least : (other : ℕ) → IsTrue (is_among nat_eq other made) → IsFalse (is_among nat_eq other used) → wire ≤ other
 
 -- the wire that is named at the close is the least that is made and isn't used
 abbrev pub NamesTheLeast : Type 0

@@ -1,14 +1,14 @@
 -- The gates that a netlist computes with: its splitters and DROs taken out, each pin traced back to its driver.
-use Rattle.std.specs.Prelude.{ℕ, ◌+◌, ◌/◌, ◌%◌, List, [], ◌∷◌, ◌++◌, length, map, Option, Some, None, slice_index_or, if◌then◌else◌, is_some}
+use Rattle.std.specs.Prelude.{ℕ, ◌+◌, ◌/◌, List, [], ◌∷◌, ◌++◌, length, map, Option, Some, None, slice_index_or, if◌then◌else◌, is_some}
 use Rattle.std.specs.List.{flat_map}
 use Rattle.cell_lib.specs.declared.cell.Cell.{Cell}
-use Rattle.cell_lib.specs.declared.cell.Cell.TheVariants.{Dro}
+use Rattle.cell_lib.specs.Cell.{is_dro}
 use Rattle.gate_net.specs.declared.row.Driver.{Driver}
-use Rattle.gate_net.specs.declared.row.Driver.TheVariants.{Input}
-use Rattle.gate_net.specs.declared.row.Driver.TheVariants as drivers
+use Rattle.gate_net.specs.declared.row.Driver.TheVariants.{Input, Gate}
 use Rattle.gate_net.specs.declared.row.End.{End}
 use Rattle.gate_net.specs.declared.row.End.TheVariants as ends
 use Rattle.gate_net.specs.declared.row.GateRow.{GateRow}
+use Rattle.flow_net.specs.Levels.{phases_of}
 use Rattle.pulse_net.specs.declared.net.Element.{Element}
 use Rattle.pulse_net.specs.declared.net.Element.TheVariants.{Clocked, Split}
 use Rattle.pulse_net.specs.declared.net.Outlet.{Outlet}
@@ -48,12 +48,12 @@ pass_dro out driver so = make_driven out driver (record so { dros = so.dros ++ d
 -- any other cell is a gate of its own, even where an equal one is there, and drives its wire
 abbrev pub add_gate : Cell → ℕ → ℕ → List Driver → Unfolding → Unfolding
 add_gate cell stage out pins so =
-    make_driven out (drivers.Gate (length so.gates)) (record so { gates = so.gates ++ record { cell = cell; pins = pins } ∷ []; stages = so.stages ++ stage ∷ [] })
+    make_driven out (Gate (length so.gates)) (record so { gates = so.gates ++ record { cell = cell; pins = pins } ∷ []; stages = so.stages ++ stage ∷ [] })
 
 -- a clocked element, where its pins have these drivers
 abbrev pub unfold_cell : Cell → ℕ → ℕ → List Driver → Unfolding → Unfolding
-unfold_cell Dro stage out pins so = pass_dro out (dro_driver pins) so
-unfold_cell cell stage out pins so = add_gate cell stage out pins so
+unfold_cell cell stage out pins so =
+    if is_dro cell then pass_dro out (dro_driver pins) so else add_gate cell stage out pins so
 
 -- an element; a splitter hands its driver on to both sides
 abbrev pub unfold_element : Element → Unfolding → Unfolding
@@ -85,10 +85,7 @@ end_of wires Zero = ends.Zero
 end_of wires One = ends.One
 end_of wires (Wire wire) = ends.From (driver_of wires wire)
 
--- with n phases a stage is n * epoch + phase
-abbrev pub phases_of : ℕ → List ℕ → List ℕ
-phases_of phases stages = map (λ stage. stage % phases) stages
-
+-- the epochs of stages, with n phases: a stage is n * epoch + phase
 abbrev pub epochs_of : ℕ → List ℕ → List ℕ
 epochs_of phases stages = map (λ stage. stage / phases) stages
 
@@ -107,8 +104,7 @@ unfolded net = unfolded_from net (unfolding_of net)
 
 -- the wire of an element that is a gate
 abbrev pub gate_wire : Element → List ℕ
-gate_wire (Clocked Dro stage pins out) = []
-gate_wire (Clocked cell stage pins out) = out ∷ []
+gate_wire (Clocked cell stage pins out) = if is_dro cell then [] else out ∷ []
 gate_wire (Split from left right) = []
 
 -- the output wires of the gates, in order

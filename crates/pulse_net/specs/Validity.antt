@@ -1,7 +1,9 @@
 -- The rules on the wires of a netlist, and the first that is broken.
-use Rattle.std.specs.Prelude.{ℕ, ◌+◌, ◌*◌, Bool, true, false, ◌&&◌, ◌||◌, List, [], ◌∷◌, ◌++◌, Option, Some, None, Result, Ok, Err, IsOk, if◌then◌else◌, ◌==◌, nat_lt, nat_le, pos, ◌-ℤ◌}
+use Rattle.std.specs.Prelude.{ℕ, ◌+◌, ◌*◌, Bool, true, false, ◌&&◌, ◌||◌, List, [], ◌∷◌, ◌++◌, Option, Some, None, Result, Ok, Err, IsOk, if◌then◌else◌, ◌==◌, nat_lt, nat_le, pos, ◌-ℤ◌, nat_eq}
 use Rattle.std.specs.List.{list_any}
 use Rattle.std.specs.Map.{keys_of}
+use Rattle.net_base.specs.Answers.{◌>>=◌}
+use Rattle.net_base.specs.Keys.{is_among}
 use Rattle.pulse_net.specs.declared.net.Element.{Element}
 use Rattle.pulse_net.specs.declared.net.Element.TheVariants.{Clocked, Split}
 use Rattle.pulse_net.specs.declared.net.Outlet.{Outlet}
@@ -20,20 +22,10 @@ pub record Wiring : Type 0 where
   pub made : Wires ℕ
   pub used : List ℕ
 
--- goes on unless a rule is broken
-infixl 10 ◌>>=◌
-abbrev pub ◌>>=◌ : {A B E : Type 0} → Result A E → (A → Result B E) → Result B E
-Ok a >>= go = go a
-Err e >>= go = Err e
-
 -- the rule is broken at this place
 abbrev pub at : {A : Type 0} → Place → Result A Wrong → Result A Invalid
 at place (Ok a) = Ok a
 at place (Err cause) = Err (record { place = place; cause = cause })
-
--- a wire is among these
-abbrev pub is_among : List ℕ → ℕ → Bool
-is_among wires wire = list_any (λ other. wire == other) wires
 
 -- a wire may be made once
 abbrev pub made_once : Wiring → ℕ → ℕ → Option ℕ → Result Wiring Wrong
@@ -52,7 +44,7 @@ used_once wire (Some stage) false = Ok stage
 
 -- the stage of a wire that may be used
 abbrev pub source_stage : Wiring → ℕ → Result ℕ Wrong
-source_stage wiring wire = used_once wire (found wiring.made wire) (is_among wiring.used wire)
+source_stage wiring wire = used_once wire (found wiring.made wire) (is_among nat_eq wire wiring.used)
 
 -- from the stage of a wire to that of its user are 1 to n ticks, for n phases
 abbrev pub is_gap : ℕ → ℕ → ℕ → Bool
@@ -124,7 +116,7 @@ lesser wire (Some other) = if nat_lt wire other then wire else other
 
 -- the least wire so far, with this one if it isn't used
 abbrev pub with_unused : List ℕ → ℕ → Option ℕ → Option ℕ
-with_unused used wire least = if is_among used wire then least else Some (lesser wire least)
+with_unused used wire least = if is_among nat_eq wire used then least else Some (lesser wire least)
 
 -- the least of these wires that isn't used, or the one found before
 abbrev pub least_unused : List ℕ → Option ℕ → List ℕ → Option ℕ

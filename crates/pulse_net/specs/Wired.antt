@@ -7,7 +7,8 @@ use Rattle.pulse_net.specs.declared.net.Outlet.{Outlet}
 use Rattle.pulse_net.specs.declared.net.Outlet.TheVariants.{Zero, One, Wire}
 use Rattle.pulse_net.specs.declared.net.PulseNet.{PulseNet}
 use Rattle.pulse_net.specs.Wires.{Wires, found, input_wires, element_wires, input_stage, cell_stage, stages_of, uses_of}
-use Rattle.pulse_net.specs.Validity.{is_among, has_wire}
+use Rattle.net_base.specs.Keys.{is_among}
+use Rattle.pulse_net.specs.Validity.{has_wire}
 
 -- the wires that an element makes, from the left
 abbrev pub element_makes : Element → List ℕ
@@ -60,5 +61,5 @@ pub record IsWired (net : PulseNet) : Type 0 where
   pub outputs : OutletsInTime net.phases (net.phases * net.latency) (stages_of net) net.outputs
   pub made_once : IsDistinct nat_eq (makes_of net)
   pub used_once : IsDistinct nat_eq (uses_of net)
-  pub all_used : (wire : ℕ) → IsTrue (is_among (makes_of net) wire) → IsTrue (is_among (uses_of net) wire)
+  pub all_used : (wire : ℕ) → IsTrue (is_among nat_eq wire (makes_of net)) → IsTrue (is_among nat_eq wire (uses_of net))
   pub latency : IsTrue (net.latency == 1 || list_any has_wire net.outputs)

@@ -3,8 +3,9 @@
 ghost use Rattle.std.specs.Prelude.{◌↔◌, IsTrue, All};
 ghost use Rattle.pulse_net.specs.Formed.{HasItsPins, IsFormed};
 
-use crate::net::{Element, MAX_PHASES, PulseNet};
+use crate::net::{Element, PulseNet};
 use cell_lib::arity;
+use flow_net::MAX_PHASES;
 
 /// Whether a netlist is formed: 1 to 16 phases, a latency of at least 1, as many pins on each clocked element as its cell
 /// has, and as many input wires and outlets as names.

@@ -6,9 +6,6 @@ ghost use Rattle.pulse_net.specs.Formed.{is_splitter};
 use cell_lib::Cell;
 use net_base::{List, Name};
 
-/// The clock phases of a netlist at most: more than four are rare, and sixteen leave room.
-pub const MAX_PHASES: u32 = 16;
-
 /// The names of a netlist: its model, and one for each input and each output, in order.
 #[derive(Debug, Drop)]
 pub struct Names {

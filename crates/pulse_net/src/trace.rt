@@ -4,7 +4,7 @@ ghost use Rattle.std.specs.Prelude.{◌≡◌, ◌<◌, ◌^◌, ◌≤◌, ◌+
 ghost use Rattle.pulse_net.specs.Unfolding.{Unfolding, nothing_unfolded, driver_of, make_driven, pass_dro, add_gate, unfold_cell, unfold_element, end_of, dro_driver};
 
 use crate::net::{Element, Outlet};
-use cell_lib::Cell;
+use cell_lib::{Cell, is_dro};
 use gate_net::{Driver, End, GateRow, Gates};
 use indexmap::IndexMap;
 use net_base::{List, NoMemory};
@@ -92,15 +92,12 @@ impl Trace {
         requires { length self.old.gates < 2 ^ 31 }
         ensures { OnOk result (self.new ≡ unfold_cell cell stage out (map (driver_of self.old.wires) pins.now) self.old) }
     {
-        match cell {
-            Cell::Dro => {
-                let driver = dro_driver(&self.wires, pins);
-                self.pass_dro(out, driver)
-            }
-            Cell::Not | Cell::And | Cell::Or | Cell::Xor => {
-                let drivers = drivers_of(alloc, &self.wires, pins)?;
-                self.add_gate(cell, stage, out, drivers)
-            }
+        if is_dro(cell) {
+            let driver = dro_driver(&self.wires, pins);
+            self.pass_dro(out, driver)
+        } else {
+            let drivers = drivers_of(alloc, &self.wires, pins)?;
+            self.add_gate(cell, stage, out, drivers)
         }
     }
 
@@ -132,10 +129,10 @@ impl Trace {
     }
 
     /// The stages of the gates, in order.
-    pub(crate) fn stages(&self) -> &[u32]
+    pub(crate) fn stages(&self) -> &List<u32>
         ensures { result.now ≡ self.now.stages }
     {
-        self.stages.as_slice()
+        &self.stages
     }
 
     /// How many DROs were passed.

@@ -1,14 +1,15 @@
 //! The gates that a netlist unfolds to.
 
 ghost use Rattle.std.specs.Prelude.{◌≡◌, ◌<◌, ◌^◌, ◌≤◌, ◌+◌, length, OnOk, IfOk};
+ghost use Rattle.flow_net.specs.TheConstants.{MAX_PHASES};
 ghost use Rattle.gate_net.specs.Net.{IsGateNet};
 ghost use Rattle.pulse_net.specs.Validity.{IsValid};
 ghost use Rattle.pulse_net.specs.GatePulses.{PulsesAreGateValues};
-ghost use Rattle.pulse_net.specs.Unfolding.{unfolded, unfolded_from, unfolding_of, unfold_inputs, unfold_elements, phases_of, epochs_of};
+ghost use Rattle.pulse_net.specs.Unfolding.{unfolded, unfolded_from, unfolding_of, unfold_inputs, unfold_elements, epochs_of};
 
 use crate::net::{Element, PulseNet};
 use crate::trace::Trace;
-use flow_net::Epochs;
+use flow_net::{Epochs, phases};
 use gate_net::{Driver, GateNet};
 use net_base::{List, NoMemory};
 use std::alloc::Global;
@@ -56,13 +57,14 @@ fn trace_of(alloc: Global, net: &PulseNet) -> Result<Trace, NoMemory>
 
 /// What was traced, as gates with phases and epochs.
 fn unfolded_from(alloc: Global, net: &PulseNet, trace: Trace) -> Result<Unfolded, NoMemory>
-    requires phases { 0 < net.now.phases }
+    requires some_phases { 1 ≤ net.now.phases }
+    requires few_phases { net.now.phases ≤ MAX_PHASES }
     requires few_inputs { length net.now.inputs < 2 ^ 31 }
     ensures { IfOk result (λ u. u ≡ unfolded_from net.now trace) }
 {
     let outputs = trace.ends_of(alloc, net.outputs.as_slice())?;
-    let phases = phases_of(alloc, trace.stages(), net.phases)?;
-    let epochs = epochs_of(alloc, trace.stages(), net.phases)?;
+    let phases = phases(alloc, trace.stages(), net.phases)?;
+    let epochs = epochs_of(alloc, trace.stages().as_slice(), net.phases)?;
     let dros = trace.dro_count();
     Ok(Unfolded {
         gates: GateNet {
@@ -101,15 +103,6 @@ fn pass_elements(alloc: Global, trace: &mut Trace, elements: &[Element]) -> Resu
         trace.pass_element(alloc, element)?;
     }
     Ok(())
-}
-
-/// The phase at each stage.
-fn phases_of(alloc: Global, stages: &[u32], phases: u32) -> Result<List<u32>, NoMemory>
-    requires { 0 < phases }
-    ensures { IfOk result (λ r. r ≡ phases_of phases stages.now) }
-{
-    let at = stages.iter().map(|stage| *stage % phases).collect(alloc)?;
-    Ok(List::from_vec(at))
 }
 
 /// The epoch at each stage.

@@ -4,7 +4,8 @@ ghost use Rattle.std.specs.Prelude.{◌≡◌, ◌<◌, ◌^◌, ◌↔◌, ◌+
 ghost use Rattle.std.specs.List.{list_any};
 ghost use Rattle.pulse_net.specs.Formed.{IsFormed};
 ghost use Rattle.pulse_net.specs.Validity.{IsValid, at, wiring_of, wire_inputs, wire_elements, wire_outputs, check_latency, close_wires, has_wire};
-ghost use Rattle.pulse_net.specs.Refusals.{Fails, ObeysRules, placed};
+ghost use Rattle.net_base.specs.Answers.{Tells};
+ghost use Rattle.pulse_net.specs.Refusals.{ObeysRules, told_by, placed};
 
 use crate::fault::{Invalid, Place, Stop, ValidFault, Wrong};
 use crate::net::{Element, Outlet, PulseNet};
@@ -20,7 +21,7 @@ pub fn valid(alloc: Global, net: &PulseNet) -> Result<(), ValidFault>
     requires few_elements { length net.now.elements < 2 ^ 31 }
     requires few_outputs { length net.now.outputs < 2 ^ 31 }
     ensures valid { IfOk result (λ _. IsValid net.now) }
-    ensures broken { IfErr result (λ fault. Fails fault (wiring_of net.now)) }
+    ensures broken { IfErr result (λ fault. Tells (told_by fault) (wiring_of net.now)) }
 {
     let mut wires = Wires::with_room(alloc, net.most_wires())?;
     pass_inputs(&mut wires, net.inputs.as_slice())?;
@@ -95,9 +96,7 @@ fn has_some_wire(outputs: &[Outlet]) -> bool
 
 /// At the end each wire is used.
 fn close(wires: &Wires) -> Result<(), ValidFault>
-    ensures { MatchResult result
-        (λ _. IsOk (close_wires wires.now))
-        (λ fault. Fails fault (close_wires wires.now)) }
+    ensures { ObeysRules result (close_wires wires.now) wires.now }
 {
     match wires.least_unused() {
         None => Ok(()),

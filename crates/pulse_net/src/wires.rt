@@ -1,8 +1,9 @@
 //! The wires that a netlist made and used so far: the rules of one wire, and of the wires of one element.
 
-ghost use Rattle.std.specs.Prelude.{◌≡◌, ◌<◌, ◌^◌, false, OnOk, IfOk, None};
+ghost use Rattle.std.specs.Prelude.{◌≡◌, ◌<◌, ◌^◌, false, OnOk, IfOk, None, nat_eq};
 ghost use Rattle.std.specs.Map.{keys_of};
-ghost use Rattle.pulse_net.specs.Validity.{Wiring, unwired, is_among, make_wire, source_stage, with_used, use_wire, use_pins, wire_element, wire_output, is_gap, least_unused, with_unused, lesser};
+ghost use Rattle.net_base.specs.Keys.{is_among};
+ghost use Rattle.pulse_net.specs.Validity.{Wiring, unwired, make_wire, source_stage, with_used, use_wire, use_pins, wire_element, wire_output, is_gap, least_unused, with_unused, lesser};
 ghost use Rattle.pulse_net.specs.Refusals.{ObeysRule};
 
 use crate::fault::{Stop, Wrong};
@@ -61,7 +62,7 @@ impl Wires {
 
     /// Uses a wire that isn't used yet.
     fn mark_used(&mut self, wire: u32) -> Result<(), AllocFailed<u32>>
-        requires { is_among self.old.used wire ≡ false }
+        requires { is_among nat_eq wire self.old.used ≡ false }
         ensures { OnOk result (self.new ≡ with_used self.old wire) }
     {
         self.used.insert(wire)?;

@@ -27,7 +27,7 @@ fn element(alloc: Global, part: Part) -> Result<Element, Fail> {
         Part::Cell(cell, stage, pins, out) => Ok(Element::Clocked {
             cell,
             stage,
-            pins: List::from_vec(Vec::from_slice(alloc, pins)?),
+            pins: List::from_slice(alloc, pins)?,
             out,
         }),
         Part::Split(from, left, right) => Ok(Element::Split { from, left, right }),

@@ -159,7 +159,7 @@ fn gates_of(alloc: Global, row: &Row) -> Result<List<GateRow>, Fail> {
     for (cell, pins) in row.gates {
         gates.push(GateRow {
             cell: *cell,
-            pins: List::from_vec(Vec::from_slice(alloc, pins)?),
+            pins: List::from_slice(alloc, pins)?,
         })?;
     }
     Ok(gates)

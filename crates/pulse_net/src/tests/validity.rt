@@ -25,9 +25,9 @@ fn net_of(alloc: Global, row: &Row) -> Result<PulseNet, Fail> {
         names: names(alloc, row.inputs.len(), row.outputs.len())?,
         phases: row.phases,
         latency: row.latency,
-        inputs: List::from_vec(Vec::from_slice(alloc, row.inputs)?),
+        inputs: List::from_slice(alloc, row.inputs)?,
         elements: elements_of(alloc, row.parts)?,
-        outputs: List::from_vec(Vec::from_slice(alloc, row.outputs)?),
+        outputs: List::from_slice(alloc, row.outputs)?,
     })
 }
 

@@ -6,4 +6,4 @@ use Rattle.pulse_net.proofs.wires.Wires.make.Goals as goal
 pub returns : goal.returns
 returns c =
     let new = sym c.contains_key.ensures ∙ c.if-contains_key.false in
-    ap (make_wire c.args.wire c.args.stage) (sym c.self.view_is) ∙ make_wire-inserted (record { made = c.self.inside.made.entries; used = c.self.inside.used.keys }) c.args.wire c.args.stage c.insert.new.self.entries new c.in_ok-insert.ensures.entries
+    ap (make_wire c.args.wire c.args.stage) (sym c.self.view_is) ∙ make_wire-inserted c.self.inside.made c.self.inside.used.keys c.args.wire c.args.stage c.insert.new.self.entries new c.in_ok-insert.ensures.entries
