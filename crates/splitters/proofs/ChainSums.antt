@@ -10,7 +10,7 @@ use Rattle.gate_net.specs.Net.{IsThere, pin_drivers}
 use Rattle.dro_chains.specs.declared.chain.Chained.{Chained}
 use Rattle.splitters.specs.Taps.{tap_count, taps_of, input_dros, gate_dros, chain_dros}
 use Rattle.splitters.specs.Table.{slot, HasLengths}
-use Rattle.splitters.proofs.TapLemmas.{slot-same, slot-other, slot-below, length-taps_from}
+use Rattle.splitters.proofs.TapLemmas.{slot-same, slot-other, slot-below, length-taps_at}
 
 -- what the table has, with the needs of the pins from a number on, is what all pins make
 abbrev pub Lengthens : ℕ → ℕ → List ℕ → List Driver → List ℕ → ℕ → List Driver → Type 0
@@ -24,7 +24,7 @@ length-next true old new need more all mine other done = let e : new ≡ max old
 length-next false old new need more all mine other done = let e : new ≡ old = other refl in omega arith
 
 -- One pin makes the chain of its driver as long as its need, and all other chains stay.
-pub Lengthens-next : (inputs gates : ℕ) (needs : List ℕ) (drivers : List Driver) (lengths : List ℕ) (pin : ℕ) (other : Driver) (rest : List Driver) (new : ℕ) →
+Lengthens-next : (inputs gates : ℕ) (needs : List ℕ) (drivers : List Driver) (lengths : List ℕ) (pin : ℕ) (other : Driver) (rest : List Driver) (new : ℕ) →
     IsThere inputs gates other → length lengths ≡ inputs + gates → new ≡ max (get_or lengths (slot inputs other) 0) (get_or needs pin 0) →
     Lengthens inputs gates needs drivers lengths pin (other ∷ rest) → Lengthens inputs gates needs drivers (set lengths (slot inputs other) new) (pin + 1) rest
 Lengthens-next inputs gates needs drivers lengths pin other rest new here each is done = λ driver there.
@@ -32,7 +32,7 @@ Lengthens-next inputs gates needs drivers lengths pin other rest new here each i
     length-next (same_driver driver other) (get_or lengths (slot inputs driver) 0) (get_or (set lengths (slot inputs other) new) (slot inputs driver) 0) (get_or needs pin 0)
     (tap_count needs driver (pin + 1) rest) (tap_count needs driver 0 drivers - 1)
     (λ same.
-    let place = slot-same inputs gates driver other there here same in
+    let place = slot-same inputs driver other same in
     ap (λ (n : ℕ). get_or (set lengths (slot inputs other) new) n 0) place
     ∙ get_or-set_same lengths (slot inputs other) new 0 within
     ∙ is ∙ ap (λ (n : ℕ). max (get_or lengths n 0) (get_or needs pin 0)) (sym place))
@@ -93,7 +93,7 @@ lengths-sum chained lengths each has =
     let inputs = chained.gates.inputs in
     let drivers = pin_drivers chained.gates in
     let many : (driver : Driver) → tap_count chained.needs driver 0 drivers - 1 ≡ length (taps_of chained driver) - 1 =
-    λ driver. ap (λ (n : ℕ). n - 1) (sym (length-taps_from chained.needs drivers driver 0 (tap_count chained.needs driver 0 drivers))) in
+    λ driver. ap (λ (n : ℕ). n - 1) (sym (length-taps_at chained.needs drivers driver)) in
     let sums = input-sums chained 0 inputs lengths (omega arith)
     (λ k low. let here : k ≡ 0 + k = omega arith in has (Input k) low ∙ many (Input k) ∙ ap (λ (m : ℕ). length (taps_of chained (Input m)) - 1) here)
     (λ k low. has (Gate k) (omega arith) ∙ many (Gate k)) in

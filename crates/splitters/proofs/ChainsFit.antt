@@ -1,22 +1,21 @@
 -- Chains that mean a netlist can be laid out: a tap stands before its user, whose stage fits.
-use Rattle.std.proofs.Common.{◌≡◌, ◌<◌, ◌^◌, ℕ, zero, suc, ◌+◌, ◌*◌, List, [], ◌∷◌, ◌++◌, length, get_or, ap, subst, arith}
-use Rattle.std.proofs.lemmas.List.{length-map}
+use Rattle.std.proofs.Common.{◌≡◌, ◌<◌, ◌^◌, ℕ, zero, suc, ◌+◌, ◌*◌, List, [], ◌∷◌, ◌++◌, length, get_or, subst, arith}
 use Rattle.std.specs.Prelude.{⊤, flat_map}
 use Rattle.gate_net.specs.declared.row.Driver.{Driver}
 use Rattle.gate_net.specs.declared.row.GateRow.{GateRow}
 use Rattle.gate_net.specs.Net.{end_drivers, pin_drivers}
-use Rattle.flow_net.specs.Uses.{uses_of}
-use Rattle.flow_net.proofs.UseLemmas.{gates-le-uses}
+use Rattle.flow_net.proofs.CallerLemmas.{length-uses_of, gates-le-uses}
 use Rattle.dro_chains.specs.Chains.{chained_of}
+use Rattle.dro_chains.proofs.CallerLemmas.{get_or-stages}
 use Rattle.dro_chains.specs.declared.chain.Chained.{Chained}
 use Rattle.splitters.specs.Elements.{gate_pins}
 use Rattle.splitters.specs.Laws.{tap_stage, PinsInTime, GatesInTime, ChainsCanBeSplit}
 use Rattle.splitters.proofs.LayoutLemmas.{length-gate_drivers}
-use Rattle.splitters.proofs.WiredTimes.{get_or-stages, chains_keep_time}
-use Rattle.splitters.proofs.WiredCount.{use_driver, drivers-uses, chains_are_the_count}
+use Rattle.splitters.proofs.WiredTimes.{chains_keep_time}
+use Rattle.splitters.proofs.WiredCount.{chains_are_the_count}
 
 -- the stage of the tap of each of these pins, from a number on, fits
-abbrev pub TapsFit : Chained → ℕ → List Driver → Type 0
+abbrev TapsFit : Chained → ℕ → List Driver → Type 0
 TapsFit chained pin [] = ⊤
 TapsFit chained pin (driver ∷ drivers) = (tap_stage chained driver (get_or chained.needs pin 0) < 2 ^ 32) × TapsFit chained (pin + 1) drivers
 
@@ -62,8 +61,7 @@ chains_can_be_split net phases n epochs has few_dros =
     let each = has.fits.each in
     let phased = has.fits.network.phased in
     let few = has.fits.network.few_pins in
-    let many = ap length (drivers-uses net) in
-    let uses = length-map (uses_of net) use_driver in
+    let many = length-uses_of net in
     let stages : (k : ℕ) → k < 0 + length rows → get_or chained.stages k 0 < 2 ^ 32 =
     λ k low.
     let fits = has.fits.stages k (omega (arith, low, each)) in
@@ -76,9 +74,9 @@ chains_can_be_split net phases n epochs has few_dros =
     taps-append chained 0 (flat_map (λ (row : GateRow). row.pins) rows) outs gates (subst (λ p. TapsFit chained p outs) behind ends) in
     record {
       formed = has.fits.network.formed;
-      few_pins = omega (arith, few, many, uses);
+      few_pins = omega (arith, few, many);
       stages = λ pin d low.
           let same : 0 + pin ≡ pin = omega arith in
           subst (λ p. tap_stage chained (get_or (pin_drivers net) pin d) (get_or chained.needs p 0) < 2 ^ 32) same (tap-fits chained 0 (pin_drivers net) all pin d low);
-      few_wires = omega (arith, few, many, uses, few_dros, chains_are_the_count net phases n epochs has.fits.network.formed, gates-le-uses net has.fits.network.formed);
+      few_wires = omega (arith, few, many, few_dros, chains_are_the_count net phases n epochs has.fits.network.formed, gates-le-uses net has.fits.network.formed);
     }

@@ -1,6 +1,6 @@
 -- Small netlists by hand, laid out by evaluation: a false definition fails here.
 use Rattle.std.specs.Prelude.{◌≡◌, ℕ, [], ◌∷◌, Some, None, refl}
-use Rattle.cell_lib.specs.declared.cell.Cell.TheVariants.{Dro, Not, And, Or}
+use Rattle.cell_lib.specs.declared.cell.Cell.TheVariants.{Dro, Not, And, Or, Maj}
 use Rattle.gate_net.specs.declared.row.Driver.TheVariants.{Input, Gate}
 use Rattle.gate_net.specs.declared.row.End.TheVariants.{One as True, From}
 use Rattle.pulse_net.specs.declared.net.Names.{Names}
@@ -121,3 +121,31 @@ gap_of_five : elements_of (inverted 5 1) names ≡ record {
   outputs = Wire 2 ∷ [];
 }
 gap_of_five = refl
+
+-- the majority of three inputs, of which the second waits for one epoch more and is an output too
+abbrev voted : Chained
+voted = record {
+  gates = record {
+    inputs = 3;
+    gates = record { cell = Maj; pins = Input 0 ∷ (Input 1 ∷ (Input 2 ∷ [])) } ∷ [];
+    outputs = From (Gate 0) ∷ (From (Input 1) ∷ []);
+  };
+  n = 1;
+  stages = 1 ∷ [];
+  latency = 2;
+  lengths = 0 ∷ (1 ∷ (0 ∷ (0 ∷ [])));
+  needs = 0 ∷ (0 ∷ (0 ∷ (0 ∷ (1 ∷ []))));
+}
+
+voted_names : Names
+voted_names = record { model = 109 ∷ []; inputs = (97 ∷ []) ∷ ((98 ∷ []) ∷ ((99 ∷ []) ∷ [])); outputs = (102 ∷ []) ∷ ((103 ∷ []) ∷ []) }
+
+voted_netlist : elements_of voted voted_names ≡ record {
+  names = voted_names;
+  phases = 1;
+  latency = 2;
+  inputs = Some 0 ∷ (Some 1 ∷ (Some 2 ∷ []));
+  elements = Split 1 3 4 ∷ (Clocked Dro 1 (3 ∷ []) 5 ∷ (Clocked Maj 1 (0 ∷ (4 ∷ (2 ∷ []))) 6 ∷ []));
+  outputs = Wire 6 ∷ (Wire 5 ∷ []);
+}
+voted_netlist = refl

@@ -9,13 +9,13 @@ use Rattle.splitters.specs.Elements.{Layout, with_tap, with_dro, with_chain, wit
 use Rattle.splitters.specs.Taps.{taps_of}
 use Rattle.splitters.proofs.LayoutLemmas.{with_chain-goes_on}
 
-pub chain-grows : (n stage wire : ℕ) (taps : List (List ℕ)) (layout : Layout) → layout.next ≤ (with_chain n stage wire taps layout).next
+chain-grows : (n stage wire : ℕ) (taps : List (List ℕ)) (layout : Layout) → layout.next ≤ (with_chain n stage wire taps layout).next
 chain-grows n stage wire [] layout = omega arith
 chain-grows n stage wire (pins ∷ []) layout = omega arith
 chain-grows n stage wire (pins ∷ (more ∷ taps)) layout =
     omega (arith, chain-grows n (stage + n) (with_tap wire pins layout).next (more ∷ taps) (with_dro (stage + n) wire pins layout))
 
-pub inputs-grow : (chained : Chained) (input : ℕ) (wires : List (Option ℕ)) (layout : Layout) → layout.next ≤ (with_inputs chained input wires layout).next
+inputs-grow : (chained : Chained) (input : ℕ) (wires : List (Option ℕ)) (layout : Layout) → layout.next ≤ (with_inputs chained input wires layout).next
 inputs-grow chained input [] layout = omega arith
 inputs-grow chained input (None ∷ wires) layout = inputs-grow chained (input + 1) wires layout
 inputs-grow chained input (Some wire ∷ wires) layout =
@@ -27,7 +27,7 @@ gate-grows chained gate pin row layout =
     let stage = get_or chained.stages gate 0 in
     chain-grows chained.n stage layout.next (taps_of chained (Gate gate)) (with_cell row.cell stage (take (length row.pins) (drop pin layout.taken)) layout)
 
-pub gates-grow : (chained : Chained) (gate pin : ℕ) (rows : List GateRow) (layout : Layout) → layout.next ≤ (with_gates chained gate pin rows layout).next
+gates-grow : (chained : Chained) (gate pin : ℕ) (rows : List GateRow) (layout : Layout) → layout.next ≤ (with_gates chained gate pin rows layout).next
 gates-grow chained gate pin [] layout = omega arith
 gates-grow chained gate pin (row ∷ rows) layout =
     omega (arith, gate-grows chained gate pin row layout, gates-grow chained (gate + 1) (pin + length row.pins) rows (with_gate chained gate pin row layout))

@@ -1,27 +1,27 @@
-pub mod Trees
-pub mod TapLemmas
-pub mod PinLemmas
-pub mod PinCount
-pub mod LayoutLemmas
-pub mod LayoutGrows
-pub mod WiredCounts
-pub mod Takers
-pub mod WiredFrontier
-pub mod WiredPins
-pub mod WiredChains
-pub mod WiredGates
-pub mod WiredInputs
-pub mod WiredWhole
-pub mod WiredTimes
-pub mod WiredDros
-pub mod WiredCount
-pub mod ChainSums
-pub mod LayoutCount
-pub mod ChainsFit
-pub mod UnfoldsWires
-pub mod UnfoldsChains
-pub mod UnfoldsGates
-pub mod UnfoldsInputs
-pub mod UnfoldsWhole
-pub mod SplitMeans
-pub mod Examples
+mod Trees
+mod TapLemmas
+mod PinLemmas
+mod PinCount
+mod LayoutLemmas
+mod LayoutGrows
+mod WiredCounts
+mod Takers
+mod WiredFrontier
+mod WiredPins
+mod WiredChains
+mod WiredGates
+mod WiredInputs
+mod WiredWhole
+mod WiredTimes
+mod WiredDros
+mod WiredCount
+mod ChainSums
+mod LayoutCount
+mod ChainsFit
+mod UnfoldsWires
+mod UnfoldsChains
+mod UnfoldsGates
+mod UnfoldsInputs
+mod UnfoldsWhole
+mod SplitMeans
+mod Examples

@@ -7,21 +7,21 @@ use Rattle.gate_net.specs.Rows.{same_driver}
 use Rattle.splitters.specs.Taps.{with_pin, takers, taps_from}
 
 -- the sum of a count over so many numbers from one on
-abbrev pub sum_from : (ℕ → ℕ) → ℕ → ℕ → ℕ
+abbrev sum_from : (ℕ → ℕ) → ℕ → ℕ → ℕ
 sum_from count from zero = 0
 sum_from count from (suc more) = count from + sum_from count (from + 1) more
 
-pub sum_from-none : (count : ℕ → ℕ) (from more : ℕ) → ((k : ℕ) → from ≤ k → count k ≡ 0) → sum_from count from more ≡ 0
+sum_from-none : (count : ℕ → ℕ) (from more : ℕ) → ((k : ℕ) → from ≤ k → count k ≡ 0) → sum_from count from more ≡ 0
 sum_from-none count from zero none = refl
 sum_from-none count from (suc more) none = omega (arith, none from (omega arith), sum_from-none count (from + 1) more (λ k low. none k (omega arith)))
 
 -- where each number counts no more than two others do, so does the sum
-pub sum_from-plus : (count first second : ℕ → ℕ) (from more : ℕ) → ((k : ℕ) → count k ≤ first k + second k) → sum_from count from more ≤ sum_from first from more + sum_from second from more
+sum_from-plus : (count first second : ℕ → ℕ) (from more : ℕ) → ((k : ℕ) → count k ≤ first k + second k) → sum_from count from more ≤ sum_from first from more + sum_from second from more
 sum_from-plus count first second from zero each = omega arith
 sum_from-plus count first second from (suc more) each = omega (arith, each from, sum_from-plus count first second (from + 1) more each)
 
 -- A test that one number at most passes, counts 1 at most.
-pub sum_from-one : (test : ℕ → Bool) (x from more : ℕ) → ((k : ℕ) → test k ≡ true → k ≡ x) → sum_from (λ k. cond (test k) 1 0) from more ≤ 1
+sum_from-one : (test : ℕ → Bool) (x from more : ℕ) → ((k : ℕ) → test k ≡ true → k ≡ x) → sum_from (λ k. cond (test k) 1 0) from more ≤ 1
 sum_from-one test x from zero only = omega arith
 sum_from-one test x from (suc more) only = by (test from) refl (sum_from-one test x (from + 1) more only)
   where

@@ -14,7 +14,7 @@ use Rattle.splitters.proofs.WiredWhole.{layout_is_valid}
 use Rattle.splitters.proofs.UnfoldsWhole.{chains_unfold}
 
 -- the netlist of these parts
-abbrev pub net_with : Chained → Names → List (Option ℕ) → List Element → List Outlet → PulseNet
+abbrev net_with : Chained → Names → List (Option ℕ) → List Element → List Outlet → PulseNet
 net_with chained names inputs elements outputs =
     record { names = names; phases = chained.n; latency = chained.latency; inputs = inputs; elements = elements; outputs = outputs }
 

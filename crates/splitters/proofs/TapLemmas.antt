@@ -2,12 +2,15 @@
 use Rattle.std.proofs.Common.{◌-◌, ⊎_elim, ◌*◌, ◌≡◌, ◌≢◌, ◌≤◌, ◌<◌, ◌^◌, ℕ, zero, suc, ◌+◌, max, cond, Bool, true, false, not, IsTrue, ◌↔◌, ◌||◌, ◌&&◌, ◌==◌, List, [], ◌∷◌, ◌++◌, All, length, get_or, set, drop, replicate, refl, ap, sym, subst, ◌∙◌, arith, add-one, drop-cons, append_assoc, get_or-set_same, get_or-set_other}
 use Rattle.std.proofs.lemmas.List.{append-nil, replicate-append-replicate, get_or_default}
 use Rattle.std.proofs.lemmas.List.Elements.{All-nil, All-cons}
-use Rattle.std.proofs.lemmas.Bool.{cases_lt}
+use Rattle.std.proofs.lemmas.Bool.{true≢false, cases_lt}
+use Rattle.std.proofs.lemmas.Bool.Decides.{Decides-like}
+use Rattle.std.specs.Bool.{Decides, one_answer}
 use Rattle.std.specs.List.{list_any}
 use Rattle.gate_net.specs.declared.row.Driver.{Driver}
 use Rattle.gate_net.specs.declared.row.Driver.TheVariants.{Input, Gate}
 use Rattle.gate_net.specs.Rows.{same_driver}
 use Rattle.gate_net.specs.Net.{IsThere}
+use Rattle.gate_net.proofs.CallerLemmas.{same_driver-decides}
 use Rattle.splitters.specs.Taps.{with_pin, takers, tap_count, taps_from, taps_at}
 use Rattle.splitters.specs.Table.{tap_at, slot, HasTaps}
 
@@ -17,11 +20,8 @@ pub record Gathers (inputs gates : ℕ) (needs : List ℕ) (drivers : List Drive
   pub pins : (driver : Driver) (need : ℕ) → IsThere inputs gates driver → tap_at (get_or table (slot inputs driver) []) need ++ takers needs driver need pin rest ≡ takers needs driver need 0 drivers
 
 -- Two drivers are the same, or stand at two places of the table.
-pub slot-same : (inputs gates : ℕ) (a b : Driver) → IsThere inputs gates a → IsThere inputs gates b → same_driver a b ≡ true → slot inputs a ≡ slot inputs b
-slot-same inputs gates (Input i) (Input j) there also same = grind arith
-slot-same inputs gates (Input i) (Gate k) there also same = cc
-slot-same inputs gates (Gate k) (Input i) there also same = cc
-slot-same inputs gates (Gate j) (Gate k) there also same = grind arith
+pub slot-same : (inputs : ℕ) (a b : Driver) → same_driver a b ≡ true → slot inputs a ≡ slot inputs b
+slot-same inputs a b same = ap (slot inputs) ((same_driver-decides a b).0 same)
 
 pub slot-other : (inputs gates : ℕ) (a b : Driver) → IsThere inputs gates a → IsThere inputs gates b → same_driver a b ≡ false → slot inputs a ≢ slot inputs b
 slot-other inputs gates (Input i) (Input j) there also same = λ e. grind arith
@@ -30,19 +30,19 @@ slot-other inputs gates (Gate k) (Input i) there also same = λ e. omega arith
 slot-other inputs gates (Gate j) (Gate k) there also same = λ e. grind arith
 
 -- What one pin adds to the number of taps, and to one tap: nothing, unless it has the driver.
-pub count-next : (same : Bool) (old new need more all : ℕ) → (same ≡ true → new ≡ max old (need + 1)) → (same ≡ false → new ≡ old) →
+count-next : (same : Bool) (old new need more all : ℕ) → (same ≡ true → new ≡ max old (need + 1)) → (same ≡ false → new ≡ old) →
     max old (max (cond same (need + 1) 0) more) ≡ all → max new more ≡ all
 count-next true old new need more all mine other done = let e : new ≡ max old (need + 1) = mine refl in omega arith
 count-next false old new need more all mine other done = let e : new ≡ old = other refl in omega arith
 
-pub pins-next : (same here : Bool) (old new rest all : List ℕ) (pin : ℕ) → (same ≡ true → new ≡ cond here (old ++ pin ∷ []) old) → (same ≡ false → new ≡ old) →
+pins-next : (same here : Bool) (old new rest all : List ℕ) (pin : ℕ) → (same ≡ true → new ≡ cond here (old ++ pin ∷ []) old) → (same ≡ false → new ≡ old) →
     old ++ with_pin (same && here) pin rest ≡ all → new ++ rest ≡ all
 pins-next true true old new rest all pin mine other done = ap (λ (xs : List ℕ). xs ++ rest) (mine refl) ∙ append_assoc old (pin ∷ []) rest ∙ done
 pins-next true false old new rest all pin mine other done = ap (λ (xs : List ℕ). xs ++ rest) (mine refl) ∙ done
 pins-next false here old new rest all pin mine other done = ap (λ (xs : List ℕ). xs ++ rest) (other refl) ∙ done
 
 -- One pin goes to the tap of its driver and need, and all other taps stay.
-pub Gathers-next : (inputs gates : ℕ) (needs : List ℕ) (drivers : List Driver) (table : List (List (List ℕ))) (pin : ℕ) (other : Driver) (rest : List Driver) (taps : List (List ℕ)) →
+Gathers-next : (inputs gates : ℕ) (needs : List ℕ) (drivers : List Driver) (table : List (List (List ℕ))) (pin : ℕ) (other : Driver) (rest : List Driver) (taps : List (List ℕ)) →
     IsThere inputs gates other → slot inputs other < length table →
     length taps ≡ max (length (get_or table (slot inputs other) [])) (get_or needs pin 0 + 1) →
     ((k : ℕ) → tap_at taps k ≡ cond (get_or needs pin 0 == k) (tap_at (get_or table (slot inputs other) []) k ++ pin ∷ []) (tap_at (get_or table (slot inputs other) []) k)) →
@@ -52,11 +52,11 @@ Gathers-next inputs gates needs drivers table pin other rest taps here within co
     let place : Driver → ℕ = λ (driver : Driver). slot inputs driver in
     let new : Driver → List (List ℕ) = λ (driver : Driver). get_or (set table (slot inputs other) taps) (slot inputs driver) [] in
     let same_place : (driver : Driver) → IsThere inputs gates driver → same_driver driver other ≡ true → new driver ≡ taps =
-    λ driver there same. ap (λ (n : ℕ). get_or (set table (slot inputs other) taps) n []) (slot-same inputs gates driver other there here same) ∙ get_or-set_same table (slot inputs other) taps [] within in
+    λ driver there same. ap (λ (n : ℕ). get_or (set table (slot inputs other) taps) n []) (slot-same inputs driver other same) ∙ get_or-set_same table (slot inputs other) taps [] within in
     let other_place : (driver : Driver) → IsThere inputs gates driver → same_driver driver other ≡ false → new driver ≡ get_or table (slot inputs driver) [] =
     λ driver there same. get_or-set_other table (slot inputs other) (slot inputs driver) taps [] (slot-other inputs gates driver other there here same) in
     let old_place : (driver : Driver) → IsThere inputs gates driver → same_driver driver other ≡ true → get_or table (slot inputs other) [] ≡ get_or table (slot inputs driver) [] =
-    λ driver there same. ap (λ (n : ℕ). get_or table n []) (sym (slot-same inputs gates driver other there here same)) in
+    λ driver there same. ap (λ (n : ℕ). get_or table n []) (sym (slot-same inputs driver other same)) in
     record {
       count = λ driver there.
           count-next (same_driver driver other) (length (get_or table (slot inputs driver) [])) (length (new driver)) (get_or needs pin 0) (tap_count needs driver (pin + 1) rest) (tap_count needs driver 0 drivers)
@@ -71,7 +71,7 @@ Gathers-next inputs gates needs drivers table pin other rest taps here within co
     }
 
 -- Lists of taps with the same pins at each need are one.
-pub taps_from-reads : (needs : List ℕ) (drivers : List Driver) (driver : Driver) (taps : List (List ℕ)) (first count : ℕ) → length taps ≡ count →
+taps_from-reads : (needs : List ℕ) (drivers : List Driver) (driver : Driver) (taps : List (List ℕ)) (first count : ℕ) → length taps ≡ count →
     ((k : ℕ) → k < count → tap_at taps k ≡ takers needs driver (first + k) 0 drivers) → taps ≡ taps_from needs drivers driver first count
 taps_from-reads needs drivers driver [] first zero each reads = refl
 taps_from-reads needs drivers driver [] first (suc count) each reads = absurd (omega arith)
@@ -100,11 +100,11 @@ pub slot-below : (inputs gates : ℕ) (driver : Driver) → IsThere inputs gates
 slot-below inputs gates (Input i) there = omega arith
 slot-below inputs gates (Gate k) there = omega arith
 
-pub with_pin-below : (same : Bool) (pin limit : ℕ) (pins : List ℕ) → pin < limit → All (λ p. p < limit) pins → All (λ p. p < limit) (with_pin same pin pins)
+with_pin-below : (same : Bool) (pin limit : ℕ) (pins : List ℕ) → pin < limit → All (λ p. p < limit) pins → All (λ p. p < limit) (with_pin same pin pins)
 with_pin-below true pin limit pins below rest = All-cons (λ p. p < limit) pin pins below rest
 with_pin-below false pin limit pins below rest = rest
 
-pub takers-below : (needs : List ℕ) (driver : Driver) (need pin limit : ℕ) (drivers : List Driver) → pin + length drivers ≤ limit → All (λ p. p < limit) (takers needs driver need pin drivers)
+takers-below : (needs : List ℕ) (driver : Driver) (need pin limit : ℕ) (drivers : List Driver) → pin + length drivers ≤ limit → All (λ p. p < limit) (takers needs driver need pin drivers)
 takers-below needs driver need pin limit [] few = All-nil (λ p. p < limit)
 takers-below needs driver need pin limit (other ∷ drivers) few =
     with_pin-below (same_driver driver other && (get_or needs pin 0 == need)) pin limit (takers needs driver need (pin + 1) drivers) (omega arith)
@@ -114,7 +114,7 @@ takers-below needs driver need pin limit (other ∷ drivers) few =
 abbrev pub AreBelow : ℕ → List (List ℕ) → Type 0
 AreBelow limit taps = All (λ pins. All (λ pin. pin < limit) pins) taps
 
-pub taps_from-below : (needs : List ℕ) (drivers : List Driver) (driver : Driver) (need count : ℕ) → AreBelow (length drivers) (taps_from needs drivers driver need count)
+taps_from-below : (needs : List ℕ) (drivers : List Driver) (driver : Driver) (need count : ℕ) → AreBelow (length drivers) (taps_from needs drivers driver need count)
 taps_from-below needs drivers driver need zero = All-nil (λ pins. All (λ pin. pin < length drivers) pins)
 taps_from-below needs drivers driver need (suc count) =
     All-cons (λ pins. All (λ pin. pin < length drivers) pins) (takers needs driver need 0 drivers) (taps_from needs drivers driver (need + 1) count)
@@ -125,15 +125,16 @@ pub replicate-next : (n : ℕ) (table : List (List (List ℕ))) (taps : List (Li
 replicate-next n table taps before empty =
     (λ i. before i ++ empty i ∷ []) ∙ replicate-append-replicate n 1 []
 
--- What the table has at a driver's place are pins that there are.
-pub taps-below : (inputs gates : ℕ) (needs : List ℕ) (drivers : List Driver) (table : List (List (List ℕ))) (driver : Driver) (place : ℕ) (taps : List (List ℕ)) →
+pub taps_at-below : (needs : List ℕ) (drivers : List Driver) (driver : Driver) → AreBelow (length drivers) (taps_at needs drivers driver)
+taps_at-below needs drivers driver = taps_from-below needs drivers driver 0 (tap_count needs driver 0 drivers)
+
+-- What is read at a driver's place of the table are its taps.
+pub taps_at-read : (inputs gates : ℕ) (needs : List ℕ) (drivers : List Driver) (table : List (List (List ℕ))) (driver : Driver) (place : ℕ) (taps : List (List ℕ)) →
     HasTaps inputs gates needs drivers table → length table ≡ inputs + gates → IsThere inputs gates driver → place ≡ slot inputs driver → taps ≡ get_or table place taps →
-    AreBelow (length drivers) taps
-taps-below inputs gates needs drivers table driver place taps has each there here read =
+    taps ≡ taps_at needs drivers driver
+taps_at-read inputs gates needs drivers table driver place taps has each there here read =
     let within : slot inputs driver < length table = omega (arith, slot-below inputs gates driver there) in
-    let same : taps ≡ taps_at needs drivers driver =
-    read ∙ ap (λ (n : ℕ). get_or table n taps) here ∙ get_or_default table (slot inputs driver) taps [] within ∙ has driver there in
-    subst (AreBelow (length drivers)) (sym same) (taps_from-below needs drivers driver 0 (tap_count needs driver 0 drivers))
+    read ∙ ap (λ (n : ℕ). get_or table n taps) here ∙ get_or_default table (slot inputs driver) taps [] within ∙ has driver there
 
 -- The next pin goes to its tap, as the code does it: at a place of the table, with what was there before.
 pub Gathers-pin : (inputs gates : ℕ) (needs : List ℕ) (drivers : List Driver) (table : List (List (List ℕ))) (pin place need : ℕ) (taps old : List (List ℕ)) →
@@ -155,58 +156,39 @@ Gathers-pin inputs gates needs drivers table pin place need taps old within ther
     (subst (Gathers inputs gates needs drivers table pin) split_off done))
 
 -- A driver has a tap exactly where it drives a pin.
-pub none-next : (same : Bool) (need more : ℕ) (any : Bool) → (more ≡ 0 → any ≡ false) → max (cond same (need + 1) 0) more ≡ 0 → (same || any) ≡ false
-none-next true need more any rest none = absurd (omega arith)
-none-next false need more any rest none = rest (omega arith)
-
-pub tap_count-none : (needs : List ℕ) (driver : Driver) (pin : ℕ) (drivers : List Driver) → tap_count needs driver pin drivers ≡ 0 → list_any (same_driver driver) drivers ≡ false
-tap_count-none needs driver pin [] none = refl
-tap_count-none needs driver pin (other ∷ drivers) none =
-    none-next (same_driver driver other) (get_or needs pin 0) (tap_count needs driver (pin + 1) drivers) (list_any (same_driver driver) drivers)
-    (tap_count-none needs driver (pin + 1) drivers) none
-
-pub some-next : (same : Bool) (need more : ℕ) (any : Bool) → (0 < more → any ≡ true) → 0 < max (cond same (need + 1) 0) more → (same || any) ≡ true
-some-next true need more any rest some = refl
-some-next false need more any rest some = rest (omega arith)
-
-pub is_used-tap_count : (needs : List ℕ) (driver : Driver) (pin : ℕ) (drivers : List Driver) → 0 < tap_count needs driver pin drivers → list_any (same_driver driver) drivers ≡ true
-is_used-tap_count needs driver pin [] some = absurd (omega arith)
-is_used-tap_count needs driver pin (other ∷ drivers) some =
-    some-next (same_driver driver other) (get_or needs pin 0) (tap_count needs driver (pin + 1) drivers) (list_any (same_driver driver) drivers)
-    (is_used-tap_count needs driver (pin + 1) drivers) some
+pub tap_count-some : (needs : List ℕ) (driver : Driver) (pin : ℕ) (drivers : List Driver) → Decides (list_any (same_driver driver) drivers) (1 ≤ tap_count needs driver pin drivers)
+tap_count-some needs driver pin [] = (λ e. absurd (true≢false (sym e)), λ some. absurd (omega arith))
+tap_count-some needs driver pin (other ∷ drivers) = by (same_driver driver other) (tap_count-some needs driver (pin + 1) drivers)
+  where
+    by : (same : Bool) → Decides (list_any (same_driver driver) drivers) (1 ≤ tap_count needs driver (pin + 1) drivers) →
+        Decides (same || list_any (same_driver driver) drivers) (1 ≤ max (cond same (get_or needs pin 0 + 1) 0) (tap_count needs driver (pin + 1) drivers))
+    by true rest = (λ e. omega arith, λ some. refl)
+    by false rest = (λ e. let some = rest.0 e in omega (arith, some), λ some. rest.1 (omega (arith, some)))
 
 pub length-taps_from : (needs : List ℕ) (drivers : List Driver) (driver : Driver) (need count : ℕ) → length (taps_from needs drivers driver need count) ≡ count
 length-taps_from needs drivers driver need zero = refl
 length-taps_from needs drivers driver need (suc count) = omega (arith, length-taps_from needs drivers driver (need + 1) count)
 
--- by cases on whether it is empty
-is_used-empty : (needs : List ℕ) (driver : Driver) (drivers : List Driver) (taps : List (List ℕ)) (empty : Bool) → length taps ≡ tap_count needs driver 0 drivers →
-    (IsTrue empty ↔ (taps ≡ [])) → not empty ≡ list_any (same_driver driver) drivers
-is_used-empty needs driver drivers taps true many tells =
-    let none : length taps ≡ 0 = ap length (tells.0 refl) in
-    sym (tap_count-none needs driver 0 drivers (sym many ∙ none))
-is_used-empty needs driver drivers [] false many tells = let never : false ≡ true = tells.1 refl in cc
-is_used-empty needs driver drivers (tap ∷ taps) false many tells = sym (is_used-tap_count needs driver 0 drivers (omega arith))
+pub length-taps_at : (needs : List ℕ) (drivers : List Driver) (driver : Driver) → length (taps_at needs drivers driver) ≡ tap_count needs driver 0 drivers
+length-taps_at needs drivers driver = length-taps_from needs drivers driver 0 (tap_count needs driver 0 drivers)
 
--- Whether the table has a tap for a driver tells whether it is used.
-pub is_used-taps : (inputs gates : ℕ) (needs : List ℕ) (drivers : List Driver) (table : List (List (List ℕ))) (driver : Driver) (place : ℕ) (taps : List (List ℕ)) (empty : Bool) →
-    HasTaps inputs gates needs drivers table → length table ≡ inputs + gates → IsThere inputs gates driver → place ≡ slot inputs driver → taps ≡ get_or table place taps →
+-- taps that are tested for none
+some-taps : (taps : List (List ℕ)) (empty : Bool) → (IsTrue empty ↔ (taps ≡ [])) → Decides (not empty) (1 ≤ length taps)
+some-taps taps true tells = (λ e. absurd (true≢false (sym e)), λ some. let none : length taps ≡ 0 = ap length (tells.0 refl) in absurd (omega (arith, some, none)))
+some-taps [] false tells = absurd (true≢false (sym (tells.1 refl)))
+some-taps (tap ∷ taps) false tells = (λ e. omega arith, λ some. refl)
+
+-- So whether it has taps tells whether it is used.
+pub is_used-taps : (needs : List ℕ) (drivers : List Driver) (driver : Driver) (taps : List (List ℕ)) (empty : Bool) → taps ≡ taps_at needs drivers driver →
     (IsTrue empty ↔ (taps ≡ [])) → not empty ≡ list_any (same_driver driver) drivers
-is_used-taps inputs gates needs drivers table driver place taps empty has each there here read tells =
-    let within : slot inputs driver < length table = omega (arith, slot-below inputs gates driver there) in
-    let same : taps ≡ taps_at needs drivers driver =
-    read ∙ ap (λ (n : ℕ). get_or table n taps) here ∙ get_or_default table (slot inputs driver) taps [] within ∙ has driver there in
-    let many : length taps ≡ tap_count needs driver 0 drivers = ap length same ∙ length-taps_from needs drivers driver 0 (tap_count needs driver 0 drivers) in
-    is_used-empty needs driver drivers taps empty many tells
+is_used-taps needs drivers driver taps empty are tells =
+    let many : length taps ≡ tap_count needs driver 0 drivers = ap length are ∙ length-taps_at needs drivers driver in
+    one_answer (not empty) (list_any (same_driver driver) drivers)
+    (Decides-like (not empty) (λ some. omega (arith, some, many)) (λ some. omega (arith, some, many)) (some-taps taps empty tells))
+    (tap_count-some needs driver 0 drivers)
 
 -- The last DRO of a chain fits: it is the one that some pin takes from.
-pub same_driver-equal : (a b : Driver) → same_driver a b ≡ true → a ≡ b
-same_driver-equal (Input i) (Input j) same = let e : i ≡ j = grind arith in ap Input e
-same_driver-equal (Input i) (Gate k) same = cc
-same_driver-equal (Gate k) (Input i) same = cc
-same_driver-equal (Gate j) (Gate k) same = let e : j ≡ k = grind arith in ap Gate e
-
-pub fits-next : (same : Bool) (n stage need more limit : ℕ) → (same ≡ true → stage + n * need < limit) → stage + n * (more - 1) < limit → stage + n * (max (cond same (need + 1) 0) more - 1) < limit
+fits-next : (same : Bool) (n stage need more limit : ℕ) → (same ≡ true → stage + n * need < limit) → stage + n * (more - 1) < limit → stage + n * (max (cond same (need + 1) 0) more - 1) < limit
 fits-next false n stage need more limit mine rest =
     let e : max 0 more ≡ more = omega arith in
     subst (λ (m : ℕ). stage + n * (m - 1) < limit) (sym e) rest
@@ -220,7 +202,7 @@ fits-next true n stage need more limit mine rest =
     subst (λ (m : ℕ). stage + n * (m - 1) < limit) e rest)
     (cases_lt more (need + 1))
 
-pub tap_count-fits : (stage_of : Driver → ℕ) (n limit : ℕ) (needs : List ℕ) (driver : Driver) (pin : ℕ) (drivers : List Driver) → stage_of driver < limit →
+tap_count-fits : (stage_of : Driver → ℕ) (n limit : ℕ) (needs : List ℕ) (driver : Driver) (pin : ℕ) (drivers : List Driver) → stage_of driver < limit →
     ((k : ℕ) (d : Driver) → k < length drivers → stage_of (get_or drivers k d) + n * get_or needs (pin + k) 0 < limit) →
     stage_of driver + n * (tap_count needs driver pin drivers - 1) < limit
 tap_count-fits stage_of n limit needs driver pin [] first each = omega arith
@@ -228,20 +210,12 @@ tap_count-fits stage_of n limit needs driver pin (other ∷ drivers) first each 
     let here : pin + 0 ≡ pin = omega arith in
     fits-next (same_driver driver other) n (stage_of driver) (get_or needs pin 0) (tap_count needs driver (pin + 1) drivers) limit
     (λ same.
-    subst (λ (d : Driver). stage_of d + n * get_or needs pin 0 < limit) (sym (same_driver-equal driver other same))
+    subst (λ (d : Driver). stage_of d + n * get_or needs pin 0 < limit) (sym ((same_driver-decides driver other).0 same))
     (subst (λ (m : ℕ). stage_of other + n * get_or needs m 0 < limit) here (each 0 other (omega arith))))
     (tap_count-fits stage_of n limit needs driver (pin + 1) drivers first
     (λ k d below.
     let next : pin + suc k ≡ (pin + 1) + k = omega arith in
     subst (λ (m : ℕ). stage_of (get_or drivers k d) + n * get_or needs m 0 < limit) next (each (suc k) d (omega arith))))
-
-pub length-taps_at : (inputs gates : ℕ) (needs : List ℕ) (drivers : List Driver) (table : List (List (List ℕ))) (driver : Driver) (place : ℕ) (taps : List (List ℕ)) →
-    HasTaps inputs gates needs drivers table → length table ≡ inputs + gates → IsThere inputs gates driver → place ≡ slot inputs driver → taps ≡ get_or table place taps →
-    length taps ≡ tap_count needs driver 0 drivers
-length-taps_at inputs gates needs drivers table driver place taps has each there here read =
-    let within : slot inputs driver < length table = omega (arith, slot-below inputs gates driver there) in
-    ap length (read ∙ ap (λ (n : ℕ). get_or table n taps) here ∙ get_or_default table (slot inputs driver) taps [] within ∙ has driver there)
-    ∙ length-taps_from needs drivers driver 0 (tap_count needs driver 0 drivers)
 
 pub chain-fits : (stage_of : Driver → ℕ) (n : ℕ) (needs : List ℕ) (driver : Driver) (drivers : List Driver) (stage count : ℕ) →
     stage ≡ stage_of driver → stage < 2 ^ 32 → count ≡ tap_count needs driver 0 drivers →

@@ -12,7 +12,7 @@ pub rest-below : (more : ℕ) → suc (suc more) - first_half (suc (suc more)) �
 rest-below more = omega arith
 
 -- Two depths that are both large enough give one tree.
-pub tree_lines-depth : (d e wire next targets : ℕ) → targets ≤ d → targets ≤ e → tree_lines d wire next targets ≡ tree_lines e wire next targets
+tree_lines-depth : (d e wire next targets : ℕ) → targets ≤ d → targets ≤ e → tree_lines d wire next targets ≡ tree_lines e wire next targets
 tree_lines-depth zero zero wire next targets low high = refl
 tree_lines-depth zero (suc e) wire next zero low high = refl
 tree_lines-depth zero (suc e) wire next (suc t) low high = absurd (omega arith)
@@ -28,7 +28,7 @@ tree_lines-depth (suc d) (suc e) wire next (suc (suc more)) low high =
     tree_lines-depth d e (next + 1) (next + 2 * h) (suc (suc more) - h) (omega (arith, rest-below more)) (omega (arith, rest-below more)) in
     λ i. Split wire next (next + 1) ∷ (left i ++ right i)
 
-pub tree_wires-depth : (d e wire next targets : ℕ) → targets ≤ d → targets ≤ e → tree_wires d wire next targets ≡ tree_wires e wire next targets
+tree_wires-depth : (d e wire next targets : ℕ) → targets ≤ d → targets ≤ e → tree_wires d wire next targets ≡ tree_wires e wire next targets
 tree_wires-depth zero zero wire next targets low high = refl
 tree_wires-depth zero (suc e) wire next zero low high = refl
 tree_wires-depth zero (suc e) wire next (suc t) low high = absurd (omega arith)
@@ -45,7 +45,7 @@ tree_wires-depth (suc d) (suc e) wire next (suc (suc more)) low high =
     λ i. left i ++ right i
 
 -- One splitter, then the trees of the two halves.
-pub spread_lines-halves : (wire next targets : ℕ) → 2 ≤ targets →
+spread_lines-halves : (wire next targets : ℕ) → 2 ≤ targets →
     spread_lines wire next targets ≡ Split wire next (next + 1) ∷ (spread_lines next (next + 2) (first_half targets) ++ spread_lines (next + 1) (next + 2 * first_half targets) (targets - first_half targets))
 spread_lines-halves wire next zero many = absurd (omega arith)
 spread_lines-halves wire next (suc zero) many = absurd (omega arith)
@@ -58,7 +58,7 @@ spread_lines-halves wire next (suc (suc more)) many =
     tree_lines-depth (suc more) r (next + 1) (next + 2 * h) r (rest-below more) (omega arith) in
     λ i. Split wire next (next + 1) ∷ (left i ++ right i)
 
-pub spread_wires-halves : (wire next targets : ℕ) → 2 ≤ targets →
+spread_wires-halves : (wire next targets : ℕ) → 2 ≤ targets →
     spread_wires wire next targets ≡ spread_wires next (next + 2) (first_half targets) ++ spread_wires (next + 1) (next + 2 * first_half targets) (targets - first_half targets)
 spread_wires-halves wire next zero many = absurd (omega arith)
 spread_wires-halves wire next (suc zero) many = absurd (omega arith)
@@ -72,7 +72,7 @@ spread_wires-halves wire next (suc (suc more)) many =
     λ i. left i ++ right i
 
 -- Each target has one wire.
-pub length-tree_wires : (depth wire next targets : ℕ) → targets ≤ depth → length (tree_wires depth wire next targets) ≡ targets
+length-tree_wires : (depth wire next targets : ℕ) → targets ≤ depth → length (tree_wires depth wire next targets) ≡ targets
 length-tree_wires zero wire next targets few = omega arith
 length-tree_wires (suc depth) wire next zero few = refl
 length-tree_wires (suc depth) wire next (suc zero) few = refl

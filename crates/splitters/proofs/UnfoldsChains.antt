@@ -4,12 +4,14 @@ use Rattle.std.proofs.lemmas.Bool.{true≢false}
 use Rattle.std.specs.Prelude.{Some, slice_index}
 use Rattle.cell_lib.specs.declared.cell.Cell.TheVariants.{Dro}
 use Rattle.gate_net.specs.declared.row.Driver.{Driver}
+use Rattle.gate_net.specs.declared.row.Driver.TheVariants.{Input}
 use Rattle.gate_net.specs.Rows.{same_driver}
-use Rattle.gate_net.proofs.RowLemmas.{same_driver-decides}
+use Rattle.gate_net.proofs.CallerLemmas.{same_driver-decides}
 use Rattle.pulse_net.specs.declared.net.Element.{Element}
 use Rattle.pulse_net.specs.declared.net.Element.TheVariants.{Clocked}
 use Rattle.pulse_net.specs.Wires.{Wires, found}
 use Rattle.pulse_net.specs.Unfolding.{Unfolding, driver_of, unfold_element, unfold_elements}
+use Rattle.pulse_net.proofs.CallerLemmas.{carried-found, unfold_elements-append, with_wire-keeps, with_wire-found}
 use Rattle.splitters.specs.Spread.{spread_lines, spread_wires}
 use Rattle.splitters.specs.Elements.{Layout, take_wires, with_cell, with_last, with_tap, with_dro, with_chain}
 use Rattle.splitters.specs.Taps.{takers, tap_count, taps_from, taps_at}
@@ -17,7 +19,7 @@ use Rattle.splitters.proofs.Trees.{length-spread_wires}
 use Rattle.splitters.proofs.WiredPins.{Marks, AreStaged, Agree, Agree-all, AreStaged-agree, and_tap, IsNew, AreStaged-held, length-taken}
 use Rattle.splitters.proofs.Takers.{DrivesNone, takers-last}
 use Rattle.splitters.proofs.WiredChains.{takers-behind, with_taps, with_taps-new, with_taps-plus, with_taps-none, by_driver, and_driver, tap_count-late, Agree-chain}
-use Rattle.splitters.proofs.UnfoldsWires.{Keeps, IsFresh, driver_of-found, with_wire-keeps, with_wire-found, with_wire-fresh, unfold-append, AreKept, AreKept-then, IsHanded, IsHanded-tree}
+use Rattle.splitters.proofs.UnfoldsWires.{Keeps, IsFresh, with_wire-fresh, AreKept, AreKept-then, IsHanded, IsHanded-tree}
 
 -- what is known behind the elements so far
 abbrev pub so_far : Unfolding → Layout → Unfolding
@@ -53,9 +55,9 @@ pub record Step (start : Unfolding) (needs : List ℕ) (pin : ℕ) (rest : List 
   pub kept : AreKept (so_far start layout) (so_far start later)
 
 -- a step to a wire with this driver, from which the chain goes on
-pub record GoesOn (start : Unfolding) (needs : List ℕ) (pin : ℕ) (rest : List Driver) (marks : Marks) (layout later : Layout) (wire : ℕ) (driver : Driver) : Type 0 where
-  pub step : Step start needs pin rest marks layout later
-  pub source : found (so_far start later).wires wire ≡ Some driver
+record GoesOn (start : Unfolding) (needs : List ℕ) (pin : ℕ) (rest : List Driver) (marks : Marks) (layout later : Layout) (wire : ℕ) (driver : Driver) : Type 0 where
+  step : Step start needs pin rest marks layout later
+  source : found (so_far start later).wires wire ≡ Some driver
 
 same-its : (driver : Driver) (need : ℕ) (other : Driver) (its : ℕ) → (same_driver driver other && (its == need)) ≡ true → other ≡ driver
 same-its driver need other its = by (same_driver driver other) (λ e. sym ((same_driver-decides driver other).0 e))
@@ -69,7 +71,7 @@ spread-handed : (start : Unfolding) (elements : List Element) (next wire targets
     IsFresh next (unfold_elements elements start).wires → found (unfold_elements elements start).wires wire ≡ Some driver →
     IsHanded (unfold_elements elements start) (unfold_elements (elements ++ spread_lines wire next targets) start) (next + 2 * (targets - 1)) driver (spread_wires wire next targets)
 spread-handed start elements next wire targets driver some fresh h =
-    subst (λ (later : Unfolding). IsHanded (unfold_elements elements start) later (next + 2 * (targets - 1)) driver (spread_wires wire next targets)) (sym (unfold-append elements (spread_lines wire next targets) start))
+    subst (λ (later : Unfolding). IsHanded (unfold_elements elements start) later (next + 2 * (targets - 1)) driver (spread_wires wire next targets)) (sym (unfold_elements-append elements (spread_lines wire next targets) start))
     (IsHanded-tree targets targets (unfold_elements elements start) wire next driver (omega arith) some fresh h)
 
 -- The last tap: its wire is spread over its pins.
@@ -99,13 +101,13 @@ dro-passes : (start : Unfolding) (elements : List Element) (next stage head : �
 dro-passes start elements next stage head driver fresh h =
     let so = unfold_elements elements start in
     let d = driver_of so.wires head in
-    let hands : d ≡ driver = driver_of-found so.wires head driver h in
+    let hands : d ≡ driver = carried-found (Input 0) so.wires head driver h in
     let passed : IsHanded so (unfold_element (Clocked Dro stage (head ∷ []) next) so) (next + 1) driver (next ∷ []) = record {
       fresh = with_wire-fresh so.wires next d fresh;
       handed = (with_wire-found so.wires next d (fresh next (omega arith)) ∙ ap Some hands, tt);
       kept = record { wires = with_wire-keeps so.wires next d; gates = refl; stages = refl };
     } in
-    subst (λ (later : Unfolding). IsHanded so later (next + 1) driver (next ∷ [])) (sym (unfold-append elements (Clocked Dro stage (head ∷ []) next ∷ []) start)) passed
+    subst (λ (later : Unfolding). IsHanded so later (next + 1) driver (next ∷ [])) (sym (unfold_elements-append elements (Clocked Dro stage (head ∷ []) next ∷ []) start)) passed
 
 -- A tap where the chain goes on, where the wires of the targets are given: the first is the next DRO's.
 GoesOn-wires : (start : Unfolding) (needs : List ℕ) (pin : ℕ) (rest : List Driver) (marks : Marks) (layout : Layout) (elements : List Element) (next : ℕ) (driver : Driver) (need stage : ℕ) (wires : List ℕ) →

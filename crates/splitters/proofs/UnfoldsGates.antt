@@ -2,15 +2,15 @@
 use Rattle.std.proofs.Common.{◌≡◌, ◌≢◌, ◌≤◌, ◌<◌, ℕ, zero, suc, ◌+◌, Bool, List, [], ◌∷◌, ◌++◌, length, get_or, map, take, drop, refl, ap, sym, subst, ◌∙◌, arith, append_assoc, length-append}
 use Rattle.std.proofs.lemmas.List.{append-nil, length_push}
 use Rattle.std.specs.Prelude.{Some, None, slice_index, flat_map}
-use Rattle.cell_lib.specs.declared.cell.Cell.{Cell}
-use Rattle.cell_lib.specs.declared.cell.Cell.TheVariants.{Dro, Not, And, Or, Xor}
+use Rattle.cell_lib.specs.declared.cell.Cell.TheVariants.{Dro}
 use Rattle.gate_net.specs.declared.row.Driver.{Driver}
-use Rattle.gate_net.specs.declared.row.Driver.TheVariants.{Gate}
+use Rattle.gate_net.specs.declared.row.Driver.TheVariants.{Input, Gate}
 use Rattle.gate_net.specs.declared.row.GateRow.{GateRow}
 use Rattle.gate_net.specs.Net.{pin_drivers}
 use Rattle.pulse_net.specs.declared.net.Element.TheVariants.{Clocked}
 use Rattle.pulse_net.specs.Wires.{Wires, found}
-use Rattle.pulse_net.specs.Unfolding.{Unfolding, driver_of, add_gate, unfold_cell}
+use Rattle.pulse_net.specs.Unfolding.{Unfolding, driver_of, add_gate}
+use Rattle.pulse_net.proofs.CallerLemmas.{carried-found, unfold_elements-append, unfold_cell-gate, with_wire-keeps, with_wire-found}
 use Rattle.dro_chains.specs.declared.chain.Chained.{Chained}
 use Rattle.splitters.specs.Elements.{Layout, with_cell, with_chain, with_gate, with_gates, gate_pins}
 use Rattle.splitters.specs.Taps.{tap_count, taps_at}
@@ -18,23 +18,15 @@ use Rattle.splitters.proofs.WiredPins.{AreStaged, Agree-all}
 use Rattle.splitters.proofs.Takers.{DrivesNone}
 use Rattle.splitters.proofs.WiredChains.{by_driver, and_driver}
 use Rattle.splitters.proofs.WiredGates.{pin_wires, pin_wires-take, AreReached, AreStaged-behind, before_gate, before_gate-there, before_gate-next, before_gate-late, DrivesNone-there, DrivesNone-append, AreGatesFrom}
-use Rattle.splitters.proofs.UnfoldsWires.{driver_of-found, with_wire-keeps, with_wire-found, with_wire-fresh, unfold-append}
+use Rattle.splitters.proofs.UnfoldsWires.{with_wire-fresh}
 use Rattle.splitters.proofs.UnfoldsChains.{so_far, its_driver, Drives, AreStaged-keep, Step, Step-agree, Drives-chain}
 
 -- the wires of pins whose drivers are reached have just these drivers
-pub drivers-pins : (made : Wires Driver) (reached : Driver → Bool) (needs taken : List ℕ) (pin : ℕ) (mine rest : List Driver) → AreReached reached mine →
+drivers-pins : (made : Wires Driver) (reached : Driver → Bool) (needs taken : List ℕ) (pin : ℕ) (mine rest : List Driver) → AreReached reached mine →
     AreStaged made its_driver (by_driver reached) needs taken pin (mine ++ rest) → map (driver_of made) (pin_wires taken pin mine) ≡ mine
 drivers-pins made reached needs taken pin [] rest all h = refl
 drivers-pins made reached needs taken pin (driver ∷ mine) rest all h =
-    (λ i. driver_of-found made (get_or taken pin 0) driver (h.0 all.0) i ∷ drivers-pins made reached needs taken (pin + 1) mine rest all.1 h.1 i)
-
--- a cell that is no DRO is a gate
-is-gate : (cell : Cell) (stage out : ℕ) (pins : List Driver) (so : Unfolding) → cell ≢ Dro → unfold_cell cell stage out pins so ≡ add_gate cell stage out pins so
-is-gate Dro stage out pins so other = absurd (other refl)
-is-gate Not stage out pins so other = refl
-is-gate And stage out pins so other = refl
-is-gate Or stage out pins so other = refl
-is-gate Xor stage out pins so other = refl
+    (λ i. carried-found (Input 0) made (get_or taken pin 0) driver (h.0 all.0) i ∷ drivers-pins made reached needs taken (pin + 1) mine rest all.1 h.1 i)
 
 -- What a gate's step leaves: the later pins wait, and the gate stands behind those before.
 pub record Adds (chained : Chained) (start : Unfolding) (pin : ℕ) (rest : List Driver) (gate : ℕ) (rows : List GateRow) (times : List ℕ) (layout : Layout) : Type 0 where
@@ -53,7 +45,7 @@ gate-drives chained start gate pin row rest layout user wires gates stages other
     let so = so_far start layout in
     let line = Clocked row.cell user wires layout.next in
     let made : so_far start (with_cell row.cell user wires layout) ≡ add_gate row.cell user layout.next row.pins so =
-    unfold-append layout.elements (line ∷ []) start ∙ is-gate row.cell user layout.next (map (driver_of so.wires) wires) so other
+    unfold_elements-append layout.elements (line ∷ []) start ∙ unfold_cell-gate row.cell user layout.next (map (driver_of so.wires) wires) so other
     ∙ ap (λ (ds : List Driver). add_gate row.cell user layout.next ds so) pins in
     let place : length so.gates ≡ gate = ap length h.gates ∙ count in
     let its = Gate (length so.gates) in

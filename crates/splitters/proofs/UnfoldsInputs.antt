@@ -1,23 +1,28 @@
 -- The inputs: each used one drives its wire, and its chain hands it to its pins.
-use Rattle.std.proofs.Common.{◌≡◌, ℕ, zero, suc, ◌+◌, Bool, true, false, cond, List, [], ◌∷◌, refl, subst, arith}
+use Rattle.std.proofs.Common.{◌≡◌, ℕ, zero, suc, ◌+◌, Bool, true, false, cond, List, [], ◌∷◌, refl, sym, subst, arith}
 use Rattle.std.specs.Prelude.{Option, Some, None, ⊤}
+use Rattle.std.specs.List.{list_any}
 use Rattle.gate_net.specs.declared.row.Driver.{Driver}
 use Rattle.gate_net.specs.declared.row.Driver.TheVariants.{Input}
+use Rattle.gate_net.specs.Rows.{same_driver}
 use Rattle.gate_net.specs.Net.{pin_drivers}
+use Rattle.flow_net.specs.Uses.{uses_of, is_used}
+use Rattle.flow_net.proofs.CallerLemmas.{is_used-uses_of}
 use Rattle.pulse_net.specs.Wires.{Wires, found}
 use Rattle.pulse_net.specs.Unfolding.{Unfolding, make_driven, unfold_inputs}
+use Rattle.pulse_net.proofs.CallerLemmas.{with_wire-keeps, with_wire-found}
 use Rattle.dro_chains.specs.declared.chain.Chained.{Chained}
 use Rattle.splitters.specs.Elements.{Layout, with_chain, input_wires, wire_count, with_inputs}
-use Rattle.splitters.specs.Taps.{taps_of, is_used}
+use Rattle.splitters.specs.Taps.{taps_of}
 use Rattle.splitters.proofs.WiredPins.{Agree-all}
 use Rattle.splitters.proofs.WiredChains.{by_driver, and_driver}
-use Rattle.splitters.proofs.WiredGates.{tap_count-some}
+use Rattle.splitters.proofs.TapLemmas.{tap_count-some}
 use Rattle.splitters.proofs.WiredInputs.{before_input, before_input-next, before_input-late, Agree-unused}
-use Rattle.splitters.proofs.UnfoldsWires.{IsFresh, with_wire-keeps, with_wire-found, with_wire-fresh, AreKept, AreKept-same, AreKept-then}
+use Rattle.splitters.proofs.UnfoldsWires.{IsFresh, with_wire-fresh, AreKept, AreKept-same, AreKept-then}
 use Rattle.splitters.proofs.UnfoldsChains.{so_far, Drives, Drives-agree, Step, Step-then, Drives-chain}
 
 -- the wires of inputs from a place on have these inputs as drivers
-abbrev pub AreInputs : Wires Driver → ℕ → List (Option ℕ) → Type 0
+abbrev AreInputs : Wires Driver → ℕ → List (Option ℕ) → Type 0
 AreInputs made place [] = ⊤
 AreInputs made place (None ∷ wires) = AreInputs made (place + 1) wires
 AreInputs made place (Some wire ∷ wires) = (found made wire ≡ Some (Input place)) × AreInputs made (place + 1) wires
@@ -33,7 +38,7 @@ pub AreMade-inputs : (chained : Chained) (input next more : ℕ) (so : Unfolding
 AreMade-inputs chained input next zero so fresh =
     let e : next ≡ next + 0 = omega arith in
     subst (λ n. AreMade so so n input []) e (record { fresh = fresh; made = tt; kept = AreKept-same so })
-AreMade-inputs chained input next (suc more) so fresh = by (is_used chained (Input input)) (λ from start new. AreMade-inputs chained (input + 1) from more start new)
+AreMade-inputs chained input next (suc more) so fresh = by (is_used input (uses_of chained.gates)) (λ from start new. AreMade-inputs chained (input + 1) from more start new)
   where
     by : (used : Bool) →
         ((from : ℕ) (start : Unfolding) → IsFresh from start.wires →
@@ -72,9 +77,9 @@ Drives-inputs chained start input next zero layout made kept h =
 Drives-inputs chained start input next (suc more) layout made kept h =
     let e : (input + 1) + more ≡ input + suc more = omega arith in
     subst (λ k. Step start chained.needs 0 (pin_drivers chained.gates) (by_driver (before_input k)) layout (with_inputs chained input (input_wires chained input next (suc more)) layout)) e
-    (by (is_used chained (Input input)) refl made (λ from lay are keeps drives. Drives-inputs chained start (input + 1) from more lay are keeps drives))
+    (by (is_used input (uses_of chained.gates)) (sym (is_used-uses_of chained.gates input)) made (λ from lay are keeps drives. Drives-inputs chained start (input + 1) from more lay are keeps drives))
   where
-    by : (used : Bool) → is_used chained (Input input) ≡ used →
+    by : (used : Bool) → list_any (same_driver (Input input)) (pin_drivers chained.gates) ≡ used →
         AreInputs start.wires input (cond used (Some next) None ∷ input_wires chained (input + 1) (next + cond used 1 0) more) →
         ((from : ℕ) (lay : Layout) → AreInputs start.wires (input + 1) (input_wires chained (input + 1) from more) →
         AreKept start (so_far start lay) →
@@ -84,7 +89,7 @@ Drives-inputs chained start input next (suc more) layout made kept h =
     by true used made rest =
         let lay = with_chain chained.n 0 next (taps_of chained (Input input)) layout in
         let done = Drives-chain start chained.needs [] (pin_drivers chained.gates) (before_input input) (Input input) chained.n 0 next layout tt
-        (before_input-late input) (tap_count-some chained.needs (Input input) 0 (pin_drivers chained.gates) used) h (kept.wires next (Input input) made.0) in
+        (before_input-late input) ((tap_count-some chained.needs (Input input) 0 (pin_drivers chained.gates)).0 used) h (kept.wires next (Input input) made.0) in
         let agreed = Drives-agree start chained.needs 0 (pin_drivers chained.gates) (by_driver (and_driver (before_input input) (Input input))) (by_driver (before_input (input + 1))) lay
         (Agree-all (by_driver (and_driver (before_input input) (Input input))) (by_driver (before_input (input + 1))) chained.needs 0 (pin_drivers chained.gates) (λ driver need. before_input-next input driver)) done.drives in
         let last = with_inputs chained (input + 1) (input_wires chained (input + 1) (next + 1) more) lay in

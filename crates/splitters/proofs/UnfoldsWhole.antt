@@ -1,38 +1,37 @@
 -- The netlist of chains unfolds to the gates that the chains were made for, with their phases, epochs and DROs.
-use Rattle.std.proofs.Common.{◌≡◌, ◌<◌, ℕ, zero, suc, ◌+◌, ◌/◌, ◌%◌, List, [], ◌∷◌, length, get_or, map, replicate, All, refl, ap, subst, ◌∙◌, arith}
+use Rattle.std.proofs.Common.{◌≡◌, ◌<◌, ℕ, zero, suc, ◌+◌, List, [], ◌∷◌, length, get_or, map, replicate, All, refl, ap, subst, ◌∙◌, arith}
 use Rattle.std.proofs.lemmas.List.{length-replicate}
-use Rattle.std.proofs.lemmas.List.Elements.{All-head, All-tail}
-use Rattle.std.proofs.Math.Nat.{mul_comm}
-use Rattle.std.proofs.lemmas.Nat.{div-mul-add, mod-mul-add}
 use Rattle.std.specs.Prelude.{flat_map, slice_index}
 use Rattle.gate_net.specs.declared.row.Driver.{Driver}
+use Rattle.gate_net.specs.declared.row.Driver.TheVariants.{Input}
 use Rattle.gate_net.specs.declared.row.End.{End}
 use Rattle.gate_net.specs.declared.row.End.TheVariants.{Zero, One, From}
-use Rattle.gate_net.specs.declared.row.GateRow.{GateRow}
-use Rattle.gate_net.specs.Net.{IsGate, IsGateNet, EachGateIsUsed, pin_drivers, end_drivers}
-use Rattle.phase_rule.specs.Stages.{stage_of}
+use Rattle.gate_net.specs.Net.{IsGateNet, EachGateIsUsed, pin_drivers, end_drivers}
+use Rattle.gate_net.proofs.CallerLemmas.{pin_drivers-there}
+use Rattle.phase_rule.specs.Levels.{phases_of}
 use Rattle.pulse_net.specs.Wires.{Wires}
-use Rattle.pulse_net.specs.Unfolding.{Unfolding, end_of, phases_of, epochs_of, nothing_unfolded, unfold_inputs, unfolding_of}
-use Rattle.pulse_net.proofs.Dros.{unfolds_its_dros}
+use Rattle.pulse_net.specs.Unfolding.{Unfolding, end_of, epochs_of, nothing_unfolded, unfold_inputs, unfolding_of}
+use Rattle.pulse_net.proofs.CallerLemmas.{unfolds_its_dros, carried-found}
 use Rattle.flow_net.specs.Network.{network_of}
 use Rattle.flow_net.specs.Epochs.{dro_count}
 use Rattle.dro_chains.specs.declared.chain.Chained.{Chained}
 use Rattle.dro_chains.specs.Chains.{chained_of, stages_of}
+use Rattle.dro_chains.proofs.CallerLemmas.{length-stages, phases-back, epochs-back}
 use Rattle.splitters.specs.Elements.{with_inputs, gate_pins, outlets, wire_count, inputs_of, empty_layout, layout_of, elements_of}
 use Rattle.splitters.specs.Laws.{ChainsUnfold}
 use Rattle.splitters.proofs.WiredPins.{AreStaged}
 use Rattle.splitters.proofs.WiredChains.{by_driver}
 use Rattle.splitters.proofs.WiredGates.{AreReached, before_gate, AreGatesFrom, tap_count-gate}
 use Rattle.splitters.proofs.WiredInputs.{length-input_wires, before_input}
-use Rattle.splitters.proofs.WiredWhole.{gates-from, ends-reached, InputsThere, InputsThere-append, inputs-rows, inputs-ends, Agree-first, AreStaged-none, before_input-none}
+use Rattle.splitters.proofs.WiredWhole.{gates-all, ends-reached, Agree-first, AreStaged-none, before_input-none}
 use Rattle.splitters.proofs.WiredCount.{dros_are_the_count}
-use Rattle.splitters.proofs.UnfoldsWires.{driver_of-found, AreKept-same}
+use Rattle.splitters.proofs.UnfoldsWires.{AreKept-same}
 use Rattle.splitters.proofs.UnfoldsChains.{its_driver, Drives, Drives-agree}
 use Rattle.splitters.proofs.UnfoldsGates.{Adds, stages_from, Adds-gates}
 use Rattle.splitters.proofs.UnfoldsInputs.{AreMade, AreMade-inputs, Drives-inputs}
 
 -- what is known behind the inputs
-abbrev pub after_inputs : Chained → Unfolding
+abbrev after_inputs : Chained → Unfolding
 after_inputs chained = unfold_inputs 0 (inputs_of chained) nothing_unfolded
 
 -- each used input has its wire, and no other wire is made
@@ -64,12 +63,11 @@ Adds-layout chained formed used =
     let start = after_inputs chained in
     let stages = stages_from chained.stages 0 (length rows) in
     let first = made-inputs chained in
-    let gates : AreGatesFrom inputs 0 rows = gates-from inputs 0 rows (λ place d low. let z : place ≡ 0 + place = omega arith in subst (λ g. IsGate inputs g (get_or rows place d)) z (formed.gates place d low)) in
+    let gates : AreGatesFrom inputs 0 rows = gates-all inputs rows formed.gates in
     let laid = Drives-inputs chained start 0 0 inputs (empty_layout chained) first.made (AreKept-same start) (Drives-empty chained) in
     let layout = with_inputs chained 0 (inputs_of chained) (empty_layout chained) in
-    let there : InputsThere inputs all = InputsThere-append inputs (flat_map (λ (row : GateRow). row.pins) rows) outs (inputs-rows inputs 0 rows gates) (inputs-ends inputs (length rows) chained.gates.outputs formed.outputs) in
     let begun : Adds chained start 0 all 0 [] [] layout = record {
-      drives = Drives-agree start chained.needs 0 all (by_driver (before_input (0 + inputs))) (by_driver (before_gate 0)) layout (Agree-first inputs chained.needs 0 all there) laid.drives;
+      drives = Drives-agree start chained.needs 0 all (by_driver (before_input (0 + inputs))) (by_driver (before_gate 0)) layout (Agree-first inputs (length rows) chained.needs 0 all (pin_drivers-there chained.gates formed)) laid.drives;
       gates = laid.kept.gates ∙ first.kept.gates;
       stages = laid.kept.stages ∙ first.kept.stages;
     } in
@@ -87,7 +85,7 @@ outlets-ends made needs taken gates pin [] all h = refl
 outlets-ends made needs taken gates pin (Zero ∷ ends) all h = ap (λ (es : List End). Zero ∷ es) (outlets-ends made needs taken gates pin ends all h)
 outlets-ends made needs taken gates pin (One ∷ ends) all h = ap (λ (es : List End). One ∷ es) (outlets-ends made needs taken gates pin ends all h)
 outlets-ends made needs taken gates pin (From driver ∷ ends) all h =
-    (λ i. From (driver_of-found made (get_or taken pin 0) driver (h.0 all.0) i) ∷ outlets-ends made needs taken gates (pin + 1) ends all.1 h.1 i)
+    (λ i. From (carried-found (Input 0) made (get_or taken pin 0) driver (h.0 all.0) i) ∷ outlets-ends made needs taken gates (pin + 1) ends all.1 h.1 i)
 
 -- ---- stages
 
@@ -100,31 +98,6 @@ stages_from-later stages stage gate (suc more) =
 stages_from-all : (stages : List ℕ) → stages_from stages 0 (length stages) ≡ stages
 stages_from-all [] = refl
 stages_from-all (stage ∷ stages) = ap (λ (ss : List ℕ). stage ∷ ss) (stages_from-later stages stage 0 (length stages) ∙ stages_from-all stages)
-
-length-stages : (n : ℕ) (epochs phases : List ℕ) → length epochs ≡ length phases → length (stages_of n epochs phases) ≡ length epochs
-length-stages n [] phases each = refl
-length-stages n (epoch ∷ epochs) [] each = absurd (omega arith)
-length-stages n (epoch ∷ epochs) (phase ∷ phases) each = ap suc (length-stages n epochs phases (omega arith))
-
--- a stage gives back its phase and its epoch
-phase-back : (n epoch phase : ℕ) → phase < n → stage_of n epoch phase % n ≡ phase
-phase-back n epoch phase low = ap (λ k. (k + phase) % n) (mul_comm n epoch) ∙ mod-mul-add epoch n phase low
-
-epoch-back : (n epoch phase : ℕ) → phase < n → stage_of n epoch phase / n ≡ epoch
-epoch-back n epoch phase low = ap (λ k. (k + phase) / n) (mul_comm n epoch) ∙ div-mul-add epoch n phase low
-
-phases-back : (n : ℕ) (epochs phases : List ℕ) → length epochs ≡ length phases → All (λ phase. phase < n) phases → phases_of n (stages_of n epochs phases) ≡ phases
-phases-back n [] [] each low = refl
-phases-back n [] (phase ∷ phases) each low = absurd (omega arith)
-phases-back n (epoch ∷ epochs) [] each low = absurd (omega arith)
-phases-back n (epoch ∷ epochs) (phase ∷ phases) each low =
-    (λ i. phase-back n epoch phase (All-head (λ phase. phase < n) phase phases low) i ∷ phases-back n epochs phases (omega arith) (All-tail (λ phase. phase < n) phase phases low) i)
-
-epochs-back : (n : ℕ) (epochs phases : List ℕ) → length epochs ≡ length phases → All (λ phase. phase < n) phases → epochs_of n (stages_of n epochs phases) ≡ epochs
-epochs-back n [] phases each low = refl
-epochs-back n (epoch ∷ epochs) [] each low = absurd (omega arith)
-epochs-back n (epoch ∷ epochs) (phase ∷ phases) each low =
-    (λ i. epoch-back n epoch phase (All-head (λ phase. phase < n) phase phases low) i ∷ epochs-back n epochs phases (omega arith) (All-tail (λ phase. phase < n) phase phases low) i)
 
 -- The netlist of chains unfolds to what the chains were made for, where these mean a netlist.
 pub chains_unfold : ChainsUnfold

@@ -1,16 +1,16 @@
 -- Wires with their drivers: elements keep what is found, and a tree of splitters hands its driver on to all its targets.
-use Rattle.std.proofs.Common.{◌≡◌, ◌≤◌, ℕ, zero, suc, ◌+◌, ◌-◌, ◌*◌, Bool, true, false, cond, List, [], ◌∷◌, ◌++◌, refl, ap, sym, subst, ◌∙◌, arith}
-use Rattle.std.specs.Prelude.{Option, Some, None, unwrap_or, is_some, if◌then◌else◌}
+use Rattle.std.proofs.Common.{◌≡◌, ◌≤◌, ℕ, zero, suc, ◌+◌, ◌-◌, ◌*◌, List, [], ◌∷◌, ◌++◌, refl, ap, sym, subst, ◌∙◌, arith}
+use Rattle.std.proofs.lemmas.Bool.{ne_eqb}
+use Rattle.std.specs.Prelude.{Some, None}
 use Rattle.gate_net.specs.declared.row.Driver.{Driver}
 use Rattle.gate_net.specs.declared.row.Driver.TheVariants.{Input}
-use Rattle.pulse_net.specs.declared.net.Element.{Element}
 use Rattle.pulse_net.specs.declared.net.Element.TheVariants.{Split}
 use Rattle.pulse_net.specs.Wires.{Wires, found}
 use Rattle.pulse_net.specs.Unfolding.{Unfolding, driver_of, with_wire, unfold_element, unfold_elements}
+use Rattle.pulse_net.proofs.CallerLemmas.{carried-found, unfold_elements-append, with_wire-keeps, with_wire-found, with_wire-other}
 use Rattle.splitters.specs.Spread.{first_half, tree_lines, tree_wires}
 use Rattle.splitters.proofs.Trees.{half-below, rest-below}
-use Rattle.pulse_net.proofs.Traced.{found-append}
-use Rattle.splitters.proofs.WiredCounts.{found-behind, AreFound, AreFound-append, same-found, nat_eq-other}
+use Rattle.splitters.proofs.WiredCounts.{AreFound, AreFound-append}
 
 -- what is found in the one is found in the other
 abbrev pub Keeps : Wires Driver → Wires Driver → Type 0
@@ -20,38 +20,10 @@ Keeps made more = (wire : ℕ) (driver : Driver) → found made wire ≡ Some dr
 abbrev pub IsFresh : ℕ → Wires Driver → Type 0
 IsFresh next made = (wire : ℕ) → next ≤ wire → found made wire ≡ None
 
-pub driver_of-found : (made : Wires Driver) (wire : ℕ) (driver : Driver) → found made wire ≡ Some driver → driver_of made wire ≡ driver
-driver_of-found made wire driver h = ap (λ (o : Option Driver). unwrap_or o (Input 0)) h
-
--- ---- one wire more
-
-with_wire-new : (made : Wires Driver) (wire : ℕ) (driver : Driver) → found made wire ≡ None → with_wire made wire driver ≡ made ++ (wire, driver) ∷ []
-with_wire-new made wire driver new = ap (λ (o : Option Driver). if is_some o then made else made ++ (wire, driver) ∷ []) new
-
-pub with_wire-keeps : (made : Wires Driver) (wire : ℕ) (driver : Driver) → Keeps made (with_wire made wire driver)
-with_wire-keeps made wire driver other its h = by (is_some (found made wire))
-  where
-    by : (here : Bool) → found (if here then made else made ++ (wire, driver) ∷ []) other ≡ Some its
-    by true = h
-    by false = found-append made ((wire, driver) ∷ []) other its h
-
-pub with_wire-found : (made : Wires Driver) (wire : ℕ) (driver : Driver) → found made wire ≡ None → found (with_wire made wire driver) wire ≡ Some driver
-with_wire-found made wire driver new =
-    ap (λ (more : Wires Driver). found more wire) (with_wire-new made wire driver new)
-    ∙ found-behind made ((wire, driver) ∷ []) wire new
-    ∙ ap (λ here. cond here (Some driver) None) (same-found wire)
-
+-- one wire more
 pub with_wire-fresh : (made : Wires Driver) (next : ℕ) (driver : Driver) → IsFresh next made → IsFresh (next + 1) (with_wire made next driver)
 with_wire-fresh made next driver fresh wire high =
-    ap (λ (more : Wires Driver). found more wire) (with_wire-new made next driver (fresh next (omega arith)))
-    ∙ found-behind made ((next, driver) ∷ []) wire (fresh wire (omega arith))
-    ∙ ap (λ here. cond here (Some driver) None) (nat_eq-other wire next (λ e. omega arith))
-
--- ---- elements
-
-pub unfold-append : (xs ys : List Element) (so : Unfolding) → unfold_elements (xs ++ ys) so ≡ unfold_elements ys (unfold_elements xs so)
-unfold-append [] ys so = refl
-unfold-append (x ∷ xs) ys so = unfold-append xs ys (unfold_element x so)
+    with_wire-other made next driver wire (ne_eqb wire next (λ e. omega arith)) (fresh next (omega arith)) (fresh wire (omega arith))
 
 -- What some elements leave as it was: wires that are found, the gates and their stages.
 pub record AreKept (so later : Unfolding) : Type 0 where
@@ -83,7 +55,7 @@ IsHanded-split : (so : Unfolding) (from next : ℕ) (driver : Driver) → IsFres
     IsHanded so (unfold_element (Split from next (next + 1)) so) (next + 2) driver (next ∷ (next + 1) ∷ [])
 IsHanded-split so from next driver fresh h =
     let d = driver_of so.wires from in
-    let hands : d ≡ driver = driver_of-found so.wires from driver h in
+    let hands : d ≡ driver = carried-found (Input 0) so.wires from driver h in
     let one = with_wire so.wires next d in
     let fresh_one = with_wire-fresh so.wires next d fresh in
     let two = with_wire one (next + 1) d in
@@ -133,4 +105,4 @@ IsHanded-tree (suc depth) (suc (suc more)) so from next driver few some fresh h 
       handed = AreFound-append so_right.wires driver left_wires right_wires (AreFound-kept so_left.wires so_right.wires driver left_wires rights.kept.wires lefts.handed) rights.handed;
       kept = AreKept-then so so_split so_right split.kept (AreKept-then so_split so_left so_right lefts.kept rights.kept);
     } in
-    subst (λ (later : Unfolding). IsHanded so later (next + 2 * (suc (suc more) - 1)) driver (left_wires ++ right_wires)) (sym (unfold-append left_lines right_lines so_split)) whole
+    subst (λ (later : Unfolding). IsHanded so later (next + 2 * (suc (suc more) - 1)) driver (left_wires ++ right_wires)) (sym (unfold_elements-append left_lines right_lines so_split)) whole

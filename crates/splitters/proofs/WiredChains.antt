@@ -8,12 +8,13 @@ use Rattle.gate_net.specs.declared.row.Driver.{Driver}
 use Rattle.gate_net.specs.Rows.{same_driver}
 use Rattle.pulse_net.specs.declared.net.Element.{Element}
 use Rattle.pulse_net.specs.declared.net.Element.TheVariants.{Clocked}
-use Rattle.pulse_net.specs.Wires.{Wires, found}
+use Rattle.pulse_net.specs.Wires.{Wires, found, cell_stage}
+use Rattle.pulse_net.proofs.CallerLemmas.{after_elements-append}
 use Rattle.splitters.specs.Spread.{spread_lines, spread_wires}
 use Rattle.splitters.specs.Elements.{Layout, take_wires, with_cell, with_last, with_tap, with_dro, with_chain}
 use Rattle.splitters.specs.Taps.{takers, tap_count, taps_from, taps_at}
 use Rattle.splitters.proofs.Trees.{length-spread_wires}
-use Rattle.splitters.proofs.WiredCounts.{once, times, after, after-append}
+use Rattle.splitters.proofs.WiredCounts.{once, times, after}
 use Rattle.splitters.proofs.Takers.{DrivesNone, takers-late, takers-last, below, below-from, below-true}
 use Rattle.splitters.proofs.WiredFrontier.{IsLaid, IsLaid-waits, IsLaid-cell, IsSpread, IsSpread-tree}
 use Rattle.splitters.proofs.WiredPins.{Marks, held, AreStaged, Agree, Agree-all, held-agree, AreStaged-agree, AreStaged-stay, and_tap, IsNew, times-held, AreStaged-held, length-taken}
@@ -28,7 +29,7 @@ pub record Stands (phases first : ℕ) (start : Wires ℕ) (stage : Driver → �
 pub AreStaged-step : (start : Wires ℕ) (elements more : List Element) (stage : Driver → ℕ → ℕ) (marks : Marks) (needs taken : List ℕ) (pin : ℕ) (drivers : List Driver) →
     AreStaged (after start elements) stage marks needs taken pin drivers → AreStaged (after start (elements ++ more)) stage marks needs taken pin drivers
 AreStaged-step start elements more stage marks needs taken pin drivers h =
-    subst (λ (made : Wires ℕ). AreStaged made stage marks needs taken pin drivers) (sym (after-append start elements more)) (AreStaged-stay (after start elements) more stage marks needs taken pin drivers h)
+    subst (λ (made : Wires ℕ). AreStaged made stage marks needs taken pin drivers) (sym (after_elements-append 0 cell_stage start elements more)) (AreStaged-stay (after start elements) more stage marks needs taken pin drivers h)
 
 pub Stands-agree : (phases first : ℕ) (start : Wires ℕ) (stage : Driver → ℕ → ℕ) (needs : List ℕ) (pin : ℕ) (rest : List Driver) (marks others : Marks) (waits : ℕ → ℕ) (layout : Layout) →
     Agree marks others needs pin rest → Stands phases first start stage needs pin rest marks waits layout → Stands phases first start stage needs pin rest others waits layout
@@ -40,7 +41,7 @@ Stands-agree phases first start stage needs pin rest marks others waits layout s
 }
 
 -- The last tap: its wire is spread over its pins.
-pub Stands-last : (phases first : ℕ) (start : Wires ℕ) (stage : Driver → ℕ → ℕ) (needs : List ℕ) (pin : ℕ) (rest : List Driver) (marks : Marks) (waits : ℕ → ℕ) (layout : Layout)
+Stands-last : (phases first : ℕ) (start : Wires ℕ) (stage : Driver → ℕ → ℕ) (needs : List ℕ) (pin : ℕ) (rest : List Driver) (marks : Marks) (waits : ℕ → ℕ) (layout : Layout)
     (driver : Driver) (need s wire : ℕ) →
     Stands phases first start stage needs pin rest marks (λ w. once w wire + waits w) layout →
     found (after start layout.elements) wire ≡ Some s →
@@ -72,7 +73,7 @@ pub record GoesOn (phases first : ℕ) (start : Wires ℕ) (stage : Driver → �
   pub source : found (after start layout.elements) wire ≡ Some s
 
 -- the same, where the wires of the targets are given
-pub GoesOn-wires : (phases first : ℕ) (start : Wires ℕ) (stage : Driver → ℕ → ℕ) (needs : List ℕ) (pin : ℕ) (rest : List Driver) (marks : Marks) (waits : ℕ → ℕ) (elements : List Element) (next : ℕ) (taken : List ℕ)
+GoesOn-wires : (phases first : ℕ) (start : Wires ℕ) (stage : Driver → ℕ → ℕ) (needs : List ℕ) (pin : ℕ) (rest : List Driver) (marks : Marks) (waits : ℕ → ℕ) (elements : List Element) (next : ℕ) (taken : List ℕ)
     (driver : Driver) (need s : ℕ) (wires : List ℕ) →
     1 ≤ phases →
     ((other : Driver) (its : ℕ) → (same_driver driver other && (its == need)) ≡ true → stage other its ≡ s) →
@@ -106,7 +107,7 @@ GoesOn-wires phases first start stage needs pin rest marks waits elements next t
       source = cell.1;
     }
 
-pub GoesOn-dro : (phases first : ℕ) (start : Wires ℕ) (stage : Driver → ℕ → ℕ) (needs : List ℕ) (pin : ℕ) (rest : List Driver) (marks : Marks) (waits : ℕ → ℕ) (layout : Layout)
+GoesOn-dro : (phases first : ℕ) (start : Wires ℕ) (stage : Driver → ℕ → ℕ) (needs : List ℕ) (pin : ℕ) (rest : List Driver) (marks : Marks) (waits : ℕ → ℕ) (layout : Layout)
     (driver : Driver) (need s wire : ℕ) →
     1 ≤ phases →
     GoesOn phases first start stage needs pin rest marks waits layout wire s →
@@ -167,7 +168,7 @@ times-next : (phases need : ℕ) → phases * (need + 1) ≡ phases * need + pha
 times-next phases need = let e : need + 1 ≡ suc need = omega arith in ap (λ k. phases * k) e ∙ mul-suc phases need
 
 -- The chain of a driver from a wire that waits, whose taps behind `need` are still to be laid out.
-pub Stands-taps : (phases first : ℕ) (start : Wires ℕ) (stage : Driver → ℕ → ℕ) (needs : List ℕ) (used rest : List Driver) (reached : Driver → Bool) (waits : ℕ → ℕ)
+Stands-taps : (phases first : ℕ) (start : Wires ℕ) (stage : Driver → ℕ → ℕ) (needs : List ℕ) (used rest : List Driver) (reached : Driver → Bool) (waits : ℕ → ℕ)
     (driver : Driver) (s : ℕ) (need more : ℕ) (wire at : ℕ) (layout : Layout) →
     1 ≤ phases →
     DrivesNone driver used →

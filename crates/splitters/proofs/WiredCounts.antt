@@ -1,15 +1,15 @@
--- How often a wire stands in a list, wires in a run of numbers, and what stays found while elements follow.
+-- How often a wire stands in a list, wires in a run of numbers, and wires that are found.
 use Rattle.std.proofs.Common.{◌≡◌, ◌≤◌, ℕ, zero, suc, ◌+◌, Bool, true, false, cond, nat_eq, ◌||◌, List, [], ◌∷◌, ◌++◌, refl, ap, sym, ◌∙◌, arith}
-use Rattle.std.proofs.lemmas.Bool.{true≢false, eqb-true}
+use Rattle.std.proofs.lemmas.Bool.{true≢false}
 use Rattle.std.proofs.lemmas.Map.Keys.{IsDistinct-cons, IsDistinct-from_apart}
-use Rattle.std.specs.Prelude.{Some, None, ⊤}
+use Rattle.std.proofs.lemmas.Bool.Decides.{nat_tests}
+use Rattle.std.specs.Prelude.{Some, ⊤, nat_lt}
 use Rattle.std.specs.List.{IsDistinct, AllByRecursion}
 use Rattle.std.specs.Cmp.{nat_eq_equiv}
 use Rattle.pulse_net.specs.declared.net.Element.{Element}
-use Rattle.pulse_net.specs.Wires.{Wires, found, element_wires, after_elements, cell_stage}
-use Rattle.pulse_net.specs.Wired.{ElementsInTime}
-use Rattle.pulse_net.specs.Validity.{is_among}
-use Rattle.pulse_net.proofs.Traced.{found-append}
+use Rattle.pulse_net.specs.Wires.{Wires, found, after_elements, cell_stage}
+use Rattle.net_base.specs.Keys.{is_among}
+use Rattle.pulse_net.proofs.CallerLemmas.{after_elements-found}
 
 -- one for the wire itself, and nothing for another
 pub once : ℕ → ℕ → ℕ
@@ -39,31 +39,9 @@ run-append from (suc m) n =
 pub run-split : (from middle m n : ℕ) → from + m ≡ middle → run from (m + n) ≡ run from m ++ run middle n
 run-split from middle m n e = run-append from m n ∙ ap (λ k. run from m ++ run k n) e
 
--- what isn't found yet is found in what follows
-pub found-behind : {A : Type 0} (made more : Wires A) (wire : ℕ) → found made wire ≡ None → found (made ++ more) wire ≡ found more wire
-found-behind [] more wire h = refl
-found-behind (one ∷ made) more wire h = by (nat_eq wire one.0) (found-behind made more wire) h
-  where
-    by : (here : Bool) → (found made wire ≡ None → found (made ++ more) wire ≡ found more wire) → cond here (Some one.1) (found made wire) ≡ None → cond here (Some one.1) (found (made ++ more) wire) ≡ found more wire
-    by true rest e = cc
-    by false rest e = rest e
-
 -- the wires after elements, where an element makes its wires
 abbrev pub after : Wires ℕ → List Element → Wires ℕ
 after made elements = after_elements 0 cell_stage made elements
-
-pub after-append : (made : Wires ℕ) (xs ys : List Element) → after made (xs ++ ys) ≡ after (after made xs) ys
-after-append made [] ys = refl
-after-append made (x ∷ xs) ys = after-append (made ++ element_wires 0 cell_stage made x) xs ys
-
-pub after-stays : (made : Wires ℕ) (elements : List Element) (wire stage : ℕ) → found made wire ≡ Some stage → found (after made elements) wire ≡ Some stage
-after-stays made [] wire stage h = h
-after-stays made (x ∷ xs) wire stage h =
-    after-stays (made ++ element_wires 0 cell_stage made x) xs wire stage (found-append made (element_wires 0 cell_stage made x) wire stage h)
-
-pub in_time-append : (phases : ℕ) (made : Wires ℕ) (xs ys : List Element) → ElementsInTime phases made xs → ElementsInTime phases (after made xs) ys → ElementsInTime phases made (xs ++ ys)
-in_time-append phases made [] ys before rest = rest
-in_time-append phases made (x ∷ xs) ys before rest = (before.0, in_time-append phases (made ++ element_wires 0 cell_stage made x) xs ys before.1 rest)
 
 -- each of these wires is found, and carries this
 abbrev pub AreFound : {A : Type 0} → Wires A → A → List ℕ → Type 0
@@ -76,21 +54,7 @@ AreFound-append made stage (x ∷ xs) ys before rest = (before.0, AreFound-appen
 
 pub AreFound-stay : (made : Wires ℕ) (elements : List Element) (stage : ℕ) (wires : List ℕ) → AreFound made stage wires → AreFound (after made elements) stage wires
 AreFound-stay made elements stage [] h = h
-AreFound-stay made elements stage (wire ∷ wires) h = (after-stays made elements wire stage h.0, AreFound-stay made elements stage wires h.1)
-
-pub same-found : (wire : ℕ) → nat_eq wire wire ≡ true
-same-found wire = nat_eq_equiv.refl wire
-
--- wires that differ
-pub nat_eq-other : (a b : ℕ) → (a ≡ b → ⊥) → nat_eq a b ≡ false
-nat_eq-other a b apart = by (nat_eq a b) refl
-  where
-    by : (same : Bool) → nat_eq a b ≡ same → same ≡ false
-    by true e = absurd (apart (eqb-true a b e))
-    by false e = refl
-
-pub nat_eq-differs : (a b : ℕ) → nat_eq a b ≡ false → a ≡ b → ⊥
-nat_eq-differs a b e same = true≢false (sym (nat_eq_equiv.refl a) ∙ ap (nat_eq a) same ∙ e)
+AreFound-stay made elements stage (wire ∷ wires) h = (after_elements-found 0 cell_stage made elements wire stage h.0, AreFound-stay made elements stage wires h.1)
 
 pub once-same : (wire other : ℕ) → nat_eq wire other ≡ true → once wire other ≡ 1
 unfolding once
@@ -99,6 +63,10 @@ once-same wire other e = ap (λ b. cond b 1 0) e
 pub once-other : (wire other : ℕ) → nat_eq wire other ≡ false → once wire other ≡ 0
 unfolding once
 once-other wire other e = ap (λ b. cond b 1 0) e
+
+-- below one number more
+pub nat_lt-next : (k limit : ℕ) → nat_lt k (limit + 1) ≡ (nat_lt k limit || nat_eq limit k)
+nat_lt-next k limit = grind (arith, nat_tests)
 
 -- where a wire stands nowhere, and where none stands twice
 apart-once : (wire : ℕ) (wires : List ℕ) → times wire wires ≡ 0 → AllByRecursion (λ y. nat_eq wire y ≡ false) wires
@@ -116,18 +84,18 @@ distinct-once (wire ∷ wires) h =
     let one = once-same wire wire (nat_eq_equiv.refl wire) in
     IsDistinct-cons nat_eq wire wires (apart-once wire wires (omega (arith, here, one))) (distinct-once wires (λ other. let o = h other in omega (arith, o)))
 
-pub among-times : (wires : List ℕ) (wire : ℕ) → is_among wires wire ≡ true → 1 ≤ times wire wires
+pub among-times : (wires : List ℕ) (wire : ℕ) → is_among nat_eq wire wires ≡ true → 1 ≤ times wire wires
 among-times [] wire h = absurd (true≢false (sym h))
 among-times (other ∷ wires) wire h = by (nat_eq wire other) refl (among-times wires wire) h
   where
-    by : (here : Bool) → nat_eq wire other ≡ here → (is_among wires wire ≡ true → 1 ≤ times wire wires) → (here || is_among wires wire) ≡ true → 1 ≤ once wire other + times wire wires
+    by : (here : Bool) → nat_eq wire other ≡ here → (is_among nat_eq wire wires ≡ true → 1 ≤ times wire wires) → (here || is_among nat_eq wire wires) ≡ true → 1 ≤ once wire other + times wire wires
     by true e rest h = let o = once-same wire other e in omega (arith, o)
     by false e rest h = let r = rest h in omega (arith, r)
 
-pub times-among : (wires : List ℕ) (wire : ℕ) → 1 ≤ times wire wires → is_among wires wire ≡ true
+pub times-among : (wires : List ℕ) (wire : ℕ) → 1 ≤ times wire wires → is_among nat_eq wire wires ≡ true
 times-among [] wire h = absurd (omega arith)
 times-among (other ∷ wires) wire h = by (nat_eq wire other) refl (times-among wires wire)
   where
-    by : (here : Bool) → nat_eq wire other ≡ here → (1 ≤ times wire wires → is_among wires wire ≡ true) → (here || is_among wires wire) ≡ true
+    by : (here : Bool) → nat_eq wire other ≡ here → (1 ≤ times wire wires → is_among nat_eq wire wires ≡ true) → (here || is_among nat_eq wire wires) ≡ true
     by true e rest = refl
     by false e rest = let o = once-other wire other e in rest (omega (arith, o, h))

@@ -1,31 +1,30 @@
 -- How many DROs are laid out: a chain has one for each tap behind its first, and neither splitters nor gates are DROs.
-use Rattle.std.proofs.Common.{◌≡◌, ◌≢◌, ℕ, zero, suc, ◌+◌, ◌-◌, ◌*◌, Bool, true, false, cond, max, ◌||◌, List, [], ◌∷◌, ◌++◌, length, get_or, take, drop, refl, subst, ◌∙◌, arith}
+use Rattle.std.proofs.Common.{◌≡◌, ℕ, zero, suc, ◌+◌, ◌-◌, ◌*◌, Bool, true, false, cond, List, [], ◌∷◌, ◌++◌, length, take, drop, refl, ap, sym, ◌∙◌, arith}
 use Rattle.std.specs.Prelude.{Some, None, slice_index}
 use Rattle.std.specs.List.{list_any}
-use Rattle.std.proofs.lemmas.Bool.{true≢false}
-use Rattle.cell_lib.specs.declared.cell.Cell.{Cell}
-use Rattle.cell_lib.specs.declared.cell.Cell.TheVariants.{Dro, Not, And, Or, Xor}
+use Rattle.std.proofs.lemmas.Bool.Decides.{not_from_Decides}
+use Rattle.cell_lib.specs.declared.cell.Cell.TheVariants.{Dro}
+use Rattle.cell_lib.specs.Cell.{is_dro}
+use Rattle.cell_lib.proofs.CallerLemmas.{is_dro-other}
 use Rattle.gate_net.specs.declared.row.Driver.{Driver}
 use Rattle.gate_net.specs.declared.row.Driver.TheVariants.{Input, Gate}
 use Rattle.gate_net.specs.declared.row.GateRow.{GateRow}
 use Rattle.gate_net.specs.Rows.{same_driver}
-use Rattle.gate_net.specs.Net.{IsGate, pin_drivers}
+use Rattle.gate_net.specs.Net.{pin_drivers}
+use Rattle.flow_net.specs.Uses.{uses_of, is_used}
+use Rattle.flow_net.proofs.CallerLemmas.{is_used-uses_of}
 use Rattle.pulse_net.specs.declared.net.Element.{Element}
-use Rattle.pulse_net.specs.declared.net.Element.TheVariants.{Clocked, Split}
-use Rattle.pulse_net.specs.Dros.{is_dro, dros}
+use Rattle.pulse_net.specs.declared.net.Element.TheVariants.{Clocked}
+use Rattle.pulse_net.specs.Dros.{dros}
+use Rattle.pulse_net.proofs.CallerLemmas.{dros-append}
 use Rattle.dro_chains.specs.declared.chain.Chained.{Chained}
 use Rattle.splitters.specs.Spread.{first_half, tree_lines, spread_lines}
 use Rattle.splitters.specs.Elements.{Layout, tap_wires, with_tap, with_dro, with_chain, input_wires, with_inputs, with_cell, with_gate, with_gates, inputs_of, empty_layout}
-use Rattle.splitters.specs.Taps.{tap_count, taps_of, is_used, input_dros, gate_dros}
+use Rattle.splitters.specs.Taps.{taps_of, input_dros, gate_dros}
 use Rattle.splitters.specs.Laws.{DrosAreTheChains}
-use Rattle.splitters.proofs.TapLemmas.{length-taps_from}
+use Rattle.splitters.proofs.TapLemmas.{tap_count-some, length-taps_at}
 use Rattle.splitters.proofs.WiredGates.{AreGatesFrom}
-use Rattle.splitters.proofs.WiredWhole.{gates-from}
-
-dros-append : (xs ys : List Element) → dros (xs ++ ys) ≡ dros xs + dros ys
-dros-append [] ys = omega arith
-dros-append (Clocked cell stage pins out ∷ xs) ys = let rest = dros-append xs ys in omega (arith, rest)
-dros-append (Split from left right ∷ xs) ys = let rest = dros-append xs ys in omega (arith, rest)
+use Rattle.splitters.proofs.WiredWhole.{gates-all}
 
 dros-tree : (depth wire next targets : ℕ) → dros (tree_lines depth wire next targets) ≡ 0
 dros-tree zero wire next targets = refl
@@ -53,33 +52,18 @@ dros-chain n stage wire (pins ∷ (more ∷ taps)) layout =
     let last : dros dro.elements ≡ dros tap.elements + 1 = dros-append tap.elements (Clocked Dro (stage + n) (slice_index (tap_wires wire pins layout) 0 ∷ []) tap.next ∷ []) in
     omega (arith, rest, spread, last)
 
--- a gate is no DRO
-no-dro : (cell : Cell) → cell ≢ Dro → cond {A = ℕ} (is_dro cell) 1 0 ≡ 0
-no-dro Dro other = absurd (other refl)
-no-dro Not other = refl
-no-dro And other = refl
-no-dro Or other = refl
-no-dro Xor other = refl
-
 -- a driver that drives no pin has no tap
-tap_count-unused : (needs : List ℕ) (driver : Driver) (pin : ℕ) (drivers : List Driver) → list_any (same_driver driver) drivers ≡ false → tap_count needs driver pin drivers ≡ 0
-tap_count-unused needs driver pin [] h = refl
-tap_count-unused needs driver pin (other ∷ drivers) h = by (same_driver driver other) h (tap_count-unused needs driver (pin + 1) drivers)
-  where
-    by : (same : Bool) → (same || list_any (same_driver driver) drivers) ≡ false → (list_any (same_driver driver) drivers ≡ false → tap_count needs driver (pin + 1) drivers ≡ 0) →
-        max (cond same (get_or needs pin 0 + 1) 0) (tap_count needs driver (pin + 1) drivers) ≡ 0
-    by true h rest = absurd (true≢false h)
-    by false h rest = let r = rest h in omega (arith, r)
-
-pub no-taps : (chained : Chained) (driver : Driver) → is_used chained driver ≡ false → length (taps_of chained driver) ≡ 0
-no-taps chained driver h =
-    length-taps_from chained.needs (pin_drivers chained.gates) driver 0 (tap_count chained.needs driver 0 (pin_drivers chained.gates)) ∙ tap_count-unused chained.needs driver 0 (pin_drivers chained.gates) h
+pub no-taps : (chained : Chained) (driver : Driver) → list_any (same_driver driver) (pin_drivers chained.gates) ≡ false → length (taps_of chained driver) ≡ 0
+no-taps chained driver unused =
+    let drivers = pin_drivers chained.gates in
+    let none = not_from_Decides (list_any (same_driver driver) drivers) (tap_count-some chained.needs driver 0 drivers) unused in
+    omega (arith, none, length-taps_at chained.needs drivers driver)
 
 dros-inputs : (chained : Chained) (input next more : ℕ) (layout : Layout) →
     dros (with_inputs chained input (input_wires chained input next more) layout).elements ≡ dros layout.elements + input_dros chained input more
 dros-inputs chained input next zero layout = omega arith
 dros-inputs chained input next (suc more) layout =
-    by (is_used chained (Input input)) (no-taps chained (Input input)) (λ from lay. dros-inputs chained (input + 1) from more lay)
+    by (is_used input (uses_of chained.gates)) (λ unused. no-taps chained (Input input) (sym (is_used-uses_of chained.gates input) ∙ unused)) (λ from lay. dros-inputs chained (input + 1) from more lay)
   where
     by : (used : Bool) → (used ≡ false → length (taps_of chained (Input input)) ≡ 0) →
         ((from : ℕ) (lay : Layout) → dros (with_inputs chained (input + 1) (input_wires chained (input + 1) from more) lay).elements ≡ dros lay.elements + input_dros chained (input + 1) more) →
@@ -97,7 +81,7 @@ dros-gates chained gate pin (row ∷ rows) layout gates =
     let wires = take (length row.pins) (drop pin layout.taken) in
     let begun = with_cell row.cell user wires layout in
     let cell = dros-append layout.elements (Clocked row.cell user wires layout.next ∷ []) in
-    let none : cond {A = ℕ} (is_dro row.cell) 1 0 ≡ 0 = no-dro row.cell gates.0.not_dro in
+    let none : cond {A = ℕ} (is_dro row.cell) 1 0 ≡ 0 = ap (λ b. cond b 1 0) (is_dro-other row.cell gates.0.not_dro) in
     let chain = dros-chain chained.n user layout.next (taps_of chained (Gate gate)) begun in
     let rest = dros-gates chained (gate + 1) (pin + length row.pins) rows (with_gate chained gate pin row layout) gates.1 in
     omega (arith, cell, none, chain, rest)
@@ -106,7 +90,7 @@ pub dros_are_the_chains : DrosAreTheChains
 dros_are_the_chains chained names formed =
     let rows = chained.gates.gates in
     let inputs = chained.gates.inputs in
-    let gates : AreGatesFrom inputs 0 rows = gates-from inputs 0 rows (λ place d low. let z : place ≡ 0 + place = omega arith in subst (λ g. IsGate inputs g (get_or rows place d)) z (formed.gates place d low)) in
+    let gates : AreGatesFrom inputs 0 rows = gates-all inputs rows formed.gates in
     let a = dros-inputs chained 0 0 inputs (empty_layout chained) in
     let b = dros-gates chained 0 0 rows (with_inputs chained 0 (inputs_of chained) (empty_layout chained)) gates in
     omega (arith, a, b)

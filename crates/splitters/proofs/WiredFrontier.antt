@@ -1,7 +1,9 @@
 -- The frontier: the wires that are made and not used yet. What is laid out so far keeps the rules on wires, but for those
 -- of the frontier, which wait for their users. Each step takes one wire from it, or a gate's pins, and adds what it makes.
 use Rattle.std.proofs.Common.{◌≡◌, ◌≤◌, ℕ, zero, suc, ◌+◌, ◌-◌, ◌*◌, cond, nat_eq, List, [], ◌∷◌, ◌++◌, length, All, refl, ap, sym, subst, ◌∙◌, arith, append_assoc}
-use Rattle.std.specs.Prelude.{Option, Some, None, unwrap_or, flat_map}
+use Rattle.std.proofs.lemmas.Bool.{ne_eqb}
+use Rattle.std.specs.Prelude.{Some, None, flat_map}
+use Rattle.std.specs.Cmp.{nat_eq_equiv}
 use Rattle.std.proofs.lemmas.List.{append-nil}
 use Rattle.std.proofs.lemmas.List.Concat.{flat_map-append}
 use Rattle.std.proofs.lemmas.List.Elements.{All-nil, All-cons, All-append}
@@ -12,9 +14,10 @@ use Rattle.pulse_net.specs.declared.net.Element.TheVariants.{Clocked, Split}
 use Rattle.pulse_net.specs.Formed.{HasItsPins}
 use Rattle.pulse_net.specs.Wires.{Wires, found, carried, element_wires, element_uses, cell_stage}
 use Rattle.pulse_net.specs.Wired.{element_makes, ArriveInTime, ElementInTime, ElementsInTime}
+use Rattle.pulse_net.proofs.CallerLemmas.{carried-found, after_elements-append, after_elements-more, after_elements-last, ElementsInTime-append}
 use Rattle.splitters.specs.Spread.{first_half, tree_lines, tree_wires}
 use Rattle.splitters.proofs.Trees.{half-below, rest-below}
-use Rattle.splitters.proofs.WiredCounts.{once, times, times-append, run, run-append, run-split, found-behind, after, after-append, after-stays, in_time-append, AreFound, AreFound-append, AreFound-stay, same-found, nat_eq-other}
+use Rattle.splitters.proofs.WiredCounts.{once, times, times-append, run, run-append, run-split, after, AreFound, AreFound-append, AreFound-stay}
 
 -- Elements are laid out behind `first` wires of inputs, with the wires below `next` made, and this often each wire waits.
 pub record IsLaid (phases first : ℕ) (start : Wires ℕ) (elements : List Element) (next : ℕ) (waits : ℕ → ℕ) : Type 0 where
@@ -40,19 +43,19 @@ IsLaid-waits phases first start elements next waits others same laid = record {
 }
 
 -- one element more
-pub record IsStep (phases : ℕ) (made : Wires ℕ) (element : Element) (next count : ℕ) : Type 0 where
-  pub in_time : ElementInTime phases made element
-  pub pins : HasItsPins element
-  pub makes : element_makes element ≡ run next count
-  pub fresh : (wire : ℕ) → next + count ≤ wire → found (element_wires 0 cell_stage made element) wire ≡ None
+record IsStep (phases : ℕ) (made : Wires ℕ) (element : Element) (next count : ℕ) : Type 0 where
+  in_time : ElementInTime phases made element
+  pins : HasItsPins element
+  makes : element_makes element ≡ run next count
+  fresh : (wire : ℕ) → next + count ≤ wire → found (element_wires 0 cell_stage made element) wire ≡ None
 
-pub IsLaid-step : (phases first : ℕ) (start : Wires ℕ) (elements : List Element) (next : ℕ) (waits others : ℕ → ℕ) (element : Element) (count : ℕ) →
+IsLaid-step : (phases first : ℕ) (start : Wires ℕ) (elements : List Element) (next : ℕ) (waits others : ℕ → ℕ) (element : Element) (count : ℕ) →
     IsLaid phases first start elements next waits →
     IsStep phases (after start elements) element next count →
     ((wire : ℕ) → waits wire + times wire (run next count) ≡ times wire (element_uses element) + others wire) →
     IsLaid phases first start (elements ++ element ∷ []) (next + count) others
 IsLaid-step phases first start elements next waits others element count laid step moves = record {
-  in_time = in_time-append phases start elements (element ∷ []) laid.in_time (step.in_time, tt);
+  in_time = ElementsInTime-append phases start elements (element ∷ []) laid.in_time (step.in_time, tt);
   pins = All-append HasItsPins elements (element ∷ []) laid.pins (All-cons HasItsPins element [] step.pins (All-nil HasItsPins));
   count = laid.count + count;
   reaches = let e = laid.reaches in omega arith;
@@ -63,9 +66,7 @@ IsLaid-step phases first start elements next waits others element count laid ste
       ∙ sym (run-append first laid.count count);
   fresh = λ wire high.
       let old : found (after start elements) wire ≡ None = laid.fresh wire (omega arith) in
-      ap (λ (made : Wires ℕ). found made wire) (after-append start elements (element ∷ []))
-      ∙ found-behind (after start elements) (element_wires 0 cell_stage (after start elements) element) wire old
-      ∙ step.fresh wire high;
+      after_elements-last 0 cell_stage start elements element wire old ∙ step.fresh wire high;
   balance = λ wire.
       let old = laid.balance wire in
       let move = moves wire in
@@ -77,22 +78,15 @@ IsLaid-step phases first start elements next waits others element count laid ste
       omega (arith, old, move, used, made);
 }
 
--- a wire that was found stays found behind one element more
-pub found-step : (start : Wires ℕ) (elements more : List Element) (wire stage : ℕ) → found (after start elements) wire ≡ Some stage → found (after start (elements ++ more)) wire ≡ Some stage
-found-step start elements more wire stage h =
-    ap (λ (made : Wires ℕ). found made wire) (after-append start elements more) ∙ after-stays (after start elements) more wire stage h
-
-pub AreFound-step : (start : Wires ℕ) (elements more : List Element) (stage : ℕ) (wires : List ℕ) → AreFound (after start elements) stage wires → AreFound (after start (elements ++ more)) stage wires
+-- wires that are found stay found behind elements that follow
+AreFound-step : (start : Wires ℕ) (elements more : List Element) (stage : ℕ) (wires : List ℕ) → AreFound (after start elements) stage wires → AreFound (after start (elements ++ more)) stage wires
 AreFound-step start elements more stage wires h =
-    subst (λ (made : Wires ℕ). AreFound made stage wires) (sym (after-append start elements more)) (AreFound-stay (after start elements) more stage wires h)
+    subst (λ (made : Wires ℕ). AreFound made stage wires) (sym (after_elements-append 0 cell_stage start elements more)) (AreFound-stay (after start elements) more stage wires h)
 
 -- what an element makes is found behind it, where no such wire was found
-pub found-last : (start : Wires ℕ) (elements : List Element) (element : Element) (wire stage : ℕ) → found (after start elements) wire ≡ None →
+found-last : (start : Wires ℕ) (elements : List Element) (element : Element) (wire stage : ℕ) → found (after start elements) wire ≡ None →
     found (element_wires 0 cell_stage (after start elements) element) wire ≡ Some stage → found (after start (elements ++ element ∷ [])) wire ≡ Some stage
-found-last start elements element wire stage new here =
-    ap (λ (made : Wires ℕ). found made wire) (after-append start elements (element ∷ []))
-    ∙ found-behind (after start elements) (element_wires 0 cell_stage (after start elements) element) wire new
-    ∙ here
+found-last start elements element wire stage new here = after_elements-last 0 cell_stage start elements element wire new ∙ here
 
 -- a clocked cell takes wires that wait, and makes the next, which waits
 pub IsLaid-cell : (phases first : ℕ) (start : Wires ℕ) (elements : List Element) (next : ℕ) (rest : ℕ → ℕ) (cell : Cell) (stage : ℕ) (pins : List ℕ) →
@@ -107,14 +101,14 @@ IsLaid-cell phases first start elements next rest cell stage pins laid each arri
         in_time = arrive;
         pins = each;
         makes = refl;
-        fresh = λ wire high. ap (λ here. cond here (Some stage) None) (nat_eq-other wire next (λ e. omega arith));
+        fresh = λ wire high. ap (λ here. cond here (Some stage) None) (ne_eqb wire next (λ e. omega arith));
       })
       (λ wire. omega arith),
-  found-last start elements (Clocked cell stage pins next) next stage (laid.fresh next (omega arith)) (ap (λ here. cond here (Some stage) None) (same-found next)),
+  found-last start elements (Clocked cell stage pins next) next stage (laid.fresh next (omega arith)) (ap (λ here. cond here (Some stage) None) (nat_eq_equiv.refl next)),
 )
 
 -- a splitter takes a wire that waits, and makes the next two, which wait
-pub IsLaid-split : (phases first : ℕ) (start : Wires ℕ) (elements : List Element) (next : ℕ) (rest : ℕ → ℕ) (from stage : ℕ) →
+IsLaid-split : (phases first : ℕ) (start : Wires ℕ) (elements : List Element) (next : ℕ) (rest : ℕ → ℕ) (from stage : ℕ) →
     IsLaid phases first start elements next (λ wire. once wire from + rest wire) →
     found (after start elements) from ≡ Some stage →
     IsLaid phases first start (elements ++ Split from next (next + 1) ∷ []) (next + 2) (λ wire. once wire next + (once wire (next + 1) + rest wire))
@@ -123,18 +117,18 @@ pub IsLaid-split : (phases first : ℕ) (start : Wires ℕ) (elements : List Ele
 IsLaid-split phases first start elements next rest from stage laid h =
     let made = after start elements in
     let s = carried 0 made from in
-    let hands : s ≡ stage = ap (λ (o : Option ℕ). unwrap_or o 0) h in
+    let hands = carried-found 0 made from stage h in
     let succ : next + 1 ≡ suc next = omega arith in (
       IsLaid-step phases first start elements next (λ wire. once wire from + rest wire) (λ wire. once wire next + (once wire (next + 1) + rest wire)) (Split from next (next + 1)) 2 laid
           (record {
             in_time = (stage, h);
             pins = tt;
             makes = ap (λ n. next ∷ (n ∷ [])) succ;
-            fresh = λ wire high. ap (λ here. cond here (Some s) (cond (nat_eq wire (next + 1)) (Some s) None)) (nat_eq-other wire next (λ e. omega arith)) ∙ ap (λ here. cond here (Some s) None) (nat_eq-other wire (next + 1) (λ e. omega arith));
+            fresh = λ wire high. ap (λ here. cond here (Some s) (cond (nat_eq wire (next + 1)) (Some s) None)) (ne_eqb wire next (λ e. omega arith)) ∙ ap (λ here. cond here (Some s) None) (ne_eqb wire (next + 1) (λ e. omega arith));
           })
           (λ wire. let e : once wire (suc next) ≡ once wire (next + 1) = ap (once wire) (sym succ) in omega (arith, e)),
-      found-last start elements (Split from next (next + 1)) next stage (laid.fresh next (omega arith)) (ap (λ here. cond here (Some s) (cond (nat_eq next (next + 1)) (Some s) None)) (same-found next) ∙ ap Some hands),
-      found-last start elements (Split from next (next + 1)) (next + 1) stage (laid.fresh (next + 1) (omega arith)) (ap (λ here. cond here (Some s) (cond (nat_eq (next + 1) (next + 1)) (Some s) None)) (nat_eq-other (next + 1) next (λ e. omega arith)) ∙ ap (λ here. cond here (Some s) None) (same-found (next + 1)) ∙ ap Some hands),
+      found-last start elements (Split from next (next + 1)) next stage (laid.fresh next (omega arith)) (ap (λ here. cond here (Some s) (cond (nat_eq next (next + 1)) (Some s) None)) (nat_eq_equiv.refl next) ∙ ap Some hands),
+      found-last start elements (Split from next (next + 1)) (next + 1) stage (laid.fresh (next + 1) (omega arith)) (ap (λ here. cond here (Some s) (cond (nat_eq (next + 1) (next + 1)) (Some s) None)) (ne_eqb (next + 1) next (λ e. omega arith)) ∙ ap (λ here. cond here (Some s) None) (nat_eq_equiv.refl (next + 1)) ∙ ap Some hands),
     )
 
 -- What a spread leaves: the wires of the targets wait in place of the one that is spread, all at its stage. By induction
@@ -174,7 +168,7 @@ IsSpread-tree (suc depth) (suc (suc more)) phases first start elements next rest
     subst (λ n. IsLaid phases first start (lines ++ left_lines) n (λ wire. times wire left_wires + (once wire (next + 1) + rest wire))) e lefts.laid in
     let rights = IsSpread-tree depth right phases first start (lines ++ left_lines) (next + 2 * left) (λ wire. times wire left_wires + rest wire) (next + 1) stage (omega (arith, other)) (omega (arith, halved))
     (IsLaid-waits phases first start (lines ++ left_lines) (next + 2 * left) (λ wire. times wire left_wires + (once wire (next + 1) + rest wire)) (λ wire. once wire (next + 1) + (times wire left_wires + rest wire)) (λ wire. omega arith) left_laid)
-    (found-step start lines left_lines (next + 1) stage split.2) in
+    (after_elements-more 0 cell_stage start lines left_lines (next + 1) stage split.2) in
     let right_lines = tree_lines depth (next + 1) (next + 2 * left) right in
     let right_wires = tree_wires depth (next + 1) (next + 2 * left) right in
     let f : (next + 2 * left) + 2 * (right - 1) ≡ next + 2 * (suc (suc more) - 1) = omega (arith, halved) in

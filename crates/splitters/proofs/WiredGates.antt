@@ -1,10 +1,9 @@
 -- The gates: each takes the wires of its pins, which wait since drivers stand before users, and then comes its chain.
-use Rattle.std.proofs.Common.{◌≡◌, ◌≤◌, ◌<◌, ℕ, suc, ◌+◌, ◌*◌, max, Bool, true, false, cond, nat_eq, ◌||◌, List, [], ◌∷◌, ◌++◌, length, get_or, take, drop, All, refl, ap, sym, subst, ◌∙◌, arith, append_assoc, drop-cons, length-append}
-use Rattle.std.proofs.lemmas.Bool.{true≢false, eqb-true, lt-ltb, ltb-true, ltb-false}
+use Rattle.std.proofs.Common.{◌≡◌, ◌≤◌, ◌<◌, ℕ, suc, ◌+◌, Bool, true, false, List, [], ◌∷◌, ◌++◌, length, get_or, take, drop, All, refl, ap, sym, subst, ◌∙◌, arith, append_assoc, drop-cons, length-append}
+use Rattle.std.proofs.lemmas.Bool.{lt-ltb, ne_eqb, le-ltb}
 use Rattle.std.proofs.lemmas.List.Elements.{All-head, All-tail}
 use Rattle.std.proofs.lemmas.List.Folds.{list_any_at}
 use Rattle.std.specs.Prelude.{⊤, nat_lt, slice_index, Contains, flat_map}
-use Rattle.std.specs.List.{list_any}
 use Rattle.std.specs.Cmp.{nat_eq_equiv}
 use Rattle.cell_lib.specs.Cell.{arity_of}
 use Rattle.gate_net.specs.declared.row.Driver.{Driver}
@@ -12,6 +11,7 @@ use Rattle.gate_net.specs.declared.row.Driver.TheVariants.{Input, Gate}
 use Rattle.gate_net.specs.declared.row.GateRow.{GateRow}
 use Rattle.gate_net.specs.Rows.{same_driver}
 use Rattle.gate_net.specs.Net.{IsThere, IsGate, pin_drivers}
+use Rattle.gate_net.proofs.CallerLemmas.{same_driver-decides}
 use Rattle.pulse_net.specs.declared.net.Element.TheVariants.{Clocked}
 use Rattle.pulse_net.specs.Wires.{Wires}
 use Rattle.pulse_net.specs.Wired.{ArriveInTime}
@@ -19,7 +19,8 @@ use Rattle.dro_chains.specs.declared.chain.Chained.{Chained}
 use Rattle.splitters.specs.Elements.{Layout, with_cell, with_chain, with_gate, with_gates, gate_pins}
 use Rattle.splitters.specs.Taps.{with_pin, tap_count, taps_at}
 use Rattle.splitters.specs.Laws.{tap_stage, PinsInTime, GatesInTime}
-use Rattle.splitters.proofs.WiredCounts.{once, times, times-append, after, nat_eq-other, nat_eq-differs}
+use Rattle.splitters.proofs.TapLemmas.{tap_count-some}
+use Rattle.splitters.proofs.WiredCounts.{once, times, times-append, after, nat_lt-next}
 use Rattle.splitters.proofs.WiredFrontier.{IsLaid-waits, IsLaid-cell}
 use Rattle.splitters.proofs.WiredPins.{Marks, held, AreStaged, Agree-all}
 use Rattle.splitters.proofs.Takers.{DrivesNone}
@@ -37,7 +38,7 @@ pin_wires-take taken pin (driver ∷ drivers) room =
     ap (λ ws. get_or taken pin 0 ∷ ws) (pin_wires-take taken (pin + 1) drivers (omega arith) ∙ ap (λ p. take (length drivers) (drop p taken)) next)
     ∙ ap (take (suc (length drivers))) (sym (drop-cons taken pin 0 (omega arith)))
 
-pub length-pin_wires : (taken : List ℕ) (pin : ℕ) (drivers : List Driver) → length (pin_wires taken pin drivers) ≡ length drivers
+length-pin_wires : (taken : List ℕ) (pin : ℕ) (drivers : List Driver) → length (pin_wires taken pin drivers) ≡ length drivers
 length-pin_wires taken pin [] = refl
 length-pin_wires taken pin (driver ∷ drivers) = ap suc (length-pin_wires taken (pin + 1) drivers)
 
@@ -63,26 +64,16 @@ AreStaged-behind made stage marks needs taken pin (driver ∷ mine) rest h =
     subst (λ p. AreStaged made stage marks needs taken p rest) e (AreStaged-behind made stage marks needs taken (pin + 1) mine rest h.1)
 
 -- They arrive in time where the taps do.
-pub ArriveInTime-pins : (chained : Chained) (made : Wires ℕ) (reached : Driver → Bool) (taken : List ℕ) (user pin : ℕ) (mine rest : List Driver) → AreReached reached mine →
+ArriveInTime-pins : (chained : Chained) (made : Wires ℕ) (reached : Driver → Bool) (taken : List ℕ) (user pin : ℕ) (mine rest : List Driver) → AreReached reached mine →
     PinsInTime chained user pin mine → AreStaged made (tap_stage chained) (by_driver reached) chained.needs taken pin (mine ++ rest) →
     ArriveInTime chained.n made user (pin_wires taken pin mine)
 ArriveInTime-pins chained made reached taken user pin [] rest all timed h = tt
 ArriveInTime-pins chained made reached taken user pin (driver ∷ mine) rest all timed h =
     ((tap_stage chained driver (get_or chained.needs pin 0), h.0 all.0, timed.0), ArriveInTime-pins chained made reached taken user (pin + 1) mine rest all.1 timed.1 h.1)
 
--- a driver that drives a pin has a tap
-pub tap_count-some : (needs : List ℕ) (driver : Driver) (pin : ℕ) (drivers : List Driver) → list_any (same_driver driver) drivers ≡ true → 1 ≤ tap_count needs driver pin drivers
-tap_count-some needs driver pin [] h = absurd (true≢false (sym h))
-tap_count-some needs driver pin (other ∷ drivers) h = by (same_driver driver other) h (tap_count-some needs driver (pin + 1) drivers)
-  where
-    by : (same : Bool) → (same || list_any (same_driver driver) drivers) ≡ true → (list_any (same_driver driver) drivers ≡ true → 1 ≤ tap_count needs driver (pin + 1) drivers) →
-        1 ≤ max (cond same (get_or needs pin 0 + 1) 0) (tap_count needs driver (pin + 1) drivers)
-    by true e rest = omega arith
-    by false e rest = let r = rest e in omega arith
-
 pub tap_count-gate : (chained : Chained) (gate : ℕ) → Contains (pin_drivers chained.gates) (Gate gate) → 1 ≤ tap_count chained.needs (Gate gate) 0 (pin_drivers chained.gates)
 tap_count-gate chained gate h =
-    tap_count-some chained.needs (Gate gate) 0 (pin_drivers chained.gates)
+    (tap_count-some chained.needs (Gate gate) 0 (pin_drivers chained.gates)).0
     (list_any_at (same_driver (Gate gate)) (pin_drivers chained.gates) h.0 (Gate gate) h.1 (ap (same_driver (Gate gate)) h.2 ∙ nat_eq_equiv.refl gate))
 
 -- the inputs are reached, and the gates below one
@@ -104,7 +95,7 @@ DrivesNone-there inputs gate later (driver ∷ drivers) low all = (by driver (Al
   where
     by : (driver : Driver) → IsThere inputs gate driver → same_driver (Gate later) driver ≡ false
     by (Input i) there = refl
-    by (Gate k) there = nat_eq-other later k (λ e. omega arith)
+    by (Gate k) there = ne_eqb later k (λ e. omega arith)
 
 pub DrivesNone-append : (driver : Driver) (xs ys : List Driver) → DrivesNone driver xs → DrivesNone driver ys → DrivesNone driver (xs ++ ys)
 DrivesNone-append driver [] ys before rest = rest
@@ -113,30 +104,16 @@ DrivesNone-append driver (x ∷ xs) ys before rest = (before.0, DrivesNone-appen
 -- one gate more
 pub before_gate-next : (gate : ℕ) (driver : Driver) → before_gate (gate + 1) driver ≡ and_driver (before_gate gate) (Gate gate) driver
 before_gate-next gate (Input i) = refl
-before_gate-next gate (Gate k) = by (nat_lt k gate) (nat_eq gate k) (nat_lt k (gate + 1)) refl refl refl
-  where
-    by : (before here within : Bool) → nat_lt k gate ≡ before → nat_eq gate k ≡ here → nat_lt k (gate + 1) ≡ within → within ≡ (before || here)
-    by true here true b h w = refl
-    by false true true b h w = refl
-    by false false false b h w = refl
-    by true here false b h w = absurd (true≢false (sym (lt-ltb k (gate + 1) (omega (arith, ltb-true k gate b))) ∙ w))
-    by false true false b h w = absurd (true≢false (sym (lt-ltb k (gate + 1) (omega (arith, eqb-true gate k h))) ∙ w))
-    by false false true b h w = absurd (omega (arith, nat_eq-differs gate k h, ltb-true k (gate + 1) w, ltb-false k gate b))
+before_gate-next gate (Gate k) = nat_lt-next k gate
 
 pub before_gate-late : (gate : ℕ) (other : Driver) → same_driver (Gate gate) other ≡ true → before_gate gate other ≡ false
-before_gate-late gate (Input i) same = absurd (true≢false (sym same))
-before_gate-late gate (Gate k) same = by (nat_lt k gate) refl
-  where
-    by : (before : Bool) → nat_lt k gate ≡ before → before ≡ false
-    by true b = absurd (omega (arith, eqb-true gate k same, ltb-true k gate b))
-    by false b = refl
+before_gate-late gate other same = ap (before_gate gate) (sym ((same_driver-decides (Gate gate) other).0 same)) ∙ le-ltb gate gate (omega arith)
 
-tap_stage-gate : (chained : Chained) (gate : ℕ) (other : Driver) (its : ℕ) → same_driver (Gate gate) other ≡ true → tap_stage chained other its ≡ slice_index chained.stages gate + chained.n * its
-tap_stage-gate chained gate (Input i) its same = absurd (true≢false (sym same))
-tap_stage-gate chained gate (Gate k) its same = ap (λ g. slice_index chained.stages g + chained.n * its) (sym (eqb-true gate k same))
+pub tap_stage-same : (chained : Chained) (driver other : Driver) (its : ℕ) → same_driver driver other ≡ true → tap_stage chained other its ≡ tap_stage chained driver its
+tap_stage-same chained driver other its same = ap (λ d. tap_stage chained d its) (sym ((same_driver-decides driver other).0 same))
 
 -- A gate whose pins wait, and its chain: behind it the later pins wait.
-pub Stands-gate : (chained : Chained) (first : ℕ) (start : Wires ℕ) (used rest : List Driver) (gate pin : ℕ) (row : GateRow) (layout : Layout) →
+Stands-gate : (chained : Chained) (first : ℕ) (start : Wires ℕ) (used rest : List Driver) (gate pin : ℕ) (row : GateRow) (layout : Layout) →
     1 ≤ chained.n →
     pin ≡ length used →
     pin_drivers chained.gates ≡ (used ++ row.pins) ++ rest →
@@ -177,7 +154,7 @@ Stands-gate chained first start used rest gate pin row layout some here all each
     let at : next ≡ length (used ++ mine) = omega (arith, here, length-append used mine) in
     let tapped_here : 1 ≤ tap_count chained.needs (Gate gate) 0 ((used ++ mine) ++ rest) = subst (λ (ds : List Driver). 1 ≤ tap_count chained.needs (Gate gate) 0 ds) all tapped in
     let done = Stands-chain n first start (tap_stage chained) chained.needs (used ++ mine) rest (before_gate gate) (λ w. 0) (Gate gate) user layout.next (with_cell row.cell user wires layout)
-    some none (before_gate-late gate) (tap_stage-gate chained gate) tapped_here
+    some none (before_gate-late gate) (tap_stage-same chained (Gate gate)) tapped_here
     (subst (λ p. GoesOn n first start (tap_stage chained) chained.needs p rest marks (λ w. 0) (with_cell row.cell user wires layout) layout.next user) at begun) in
     let whole : Stands n first start (tap_stage chained) chained.needs next rest (by_driver (and_driver (before_gate gate) (Gate gate))) (λ w. 0) (with_chain n user layout.next (taps_at chained.needs (pin_drivers chained.gates) (Gate gate)) (with_cell row.cell user (take (length mine) (drop pin layout.taken)) layout)) =
     subst (λ (ws : List ℕ). Stands n first start (tap_stage chained) chained.needs next rest (by_driver (and_driver (before_gate gate) (Gate gate))) (λ w. 0) (with_chain n user layout.next (taps_at chained.needs (pin_drivers chained.gates) (Gate gate)) (with_cell row.cell user ws layout))) taken_by

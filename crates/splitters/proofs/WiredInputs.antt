@@ -1,33 +1,38 @@
 -- The inputs: the used ones make the first wires in order, and each is the source of a chain.
-use Rattle.std.proofs.Common.{◌≡◌, ◌≤◌, ◌<◌, ℕ, zero, suc, ◌+◌, ◌*◌, Bool, true, false, cond, nat_eq, ◌||◌, List, [], ◌∷◌, length, refl, ap, sym, subst, ◌∙◌, arith}
-use Rattle.std.proofs.lemmas.Bool.{true≢false, eqb-true, lt-ltb, ltb-true, ltb-false}
+use Rattle.std.proofs.Common.{◌≡◌, ◌≤◌, ◌<◌, ℕ, zero, suc, ◌+◌, Bool, true, false, cond, nat_eq, ◌||◌, List, [], ◌∷◌, length, refl, ap, sym, subst, ◌∙◌, arith}
+use Rattle.std.proofs.lemmas.Bool.{true≢false, eqb-true, ne_eqb, le-ltb}
 use Rattle.std.specs.Prelude.{Option, Some, None, nat_lt, flat_map, option_to_list}
 use Rattle.std.specs.List.{list_any}
 use Rattle.gate_net.specs.declared.row.Driver.{Driver}
 use Rattle.gate_net.specs.declared.row.Driver.TheVariants.{Input, Gate}
 use Rattle.gate_net.specs.Rows.{same_driver}
 use Rattle.gate_net.specs.Net.{pin_drivers}
-use Rattle.pulse_net.specs.Wires.{Wires, found, input_stage, input_wires as made_inputs}
+use Rattle.gate_net.proofs.CallerLemmas.{same_driver-decides}
+use Rattle.flow_net.specs.Uses.{uses_of, is_used}
+use Rattle.flow_net.proofs.CallerLemmas.{is_used-uses_of}
+use Rattle.pulse_net.specs.Wires.{Wires, found, input_stage, cell_stage, input_wires as made_inputs}
+use Rattle.pulse_net.proofs.CallerLemmas.{after_elements-found}
 use Rattle.dro_chains.specs.declared.chain.Chained.{Chained}
 use Rattle.splitters.specs.Elements.{Layout, with_chain, input_wires, wire_count, with_inputs}
-use Rattle.splitters.specs.Taps.{taps_of, is_used}
+use Rattle.splitters.specs.Taps.{taps_of}
 use Rattle.splitters.specs.Laws.{tap_stage}
-use Rattle.splitters.proofs.WiredCounts.{once, times, run, after-stays, AreFound, nat_eq-other, nat_eq-differs, once-same, once-other}
+use Rattle.splitters.proofs.WiredCounts.{once, times, run, AreFound, once-same, once-other, nat_lt-next}
 use Rattle.splitters.proofs.WiredPins.{Agree, Agree-all}
+use Rattle.splitters.proofs.WiredGates.{tap_stage-same}
 use Rattle.splitters.proofs.WiredChains.{Stands, Stands-agree, by_driver, and_driver, Stands-chain}
-use Rattle.splitters.proofs.WiredGates.{tap_count-some}
+use Rattle.splitters.proofs.TapLemmas.{tap_count-some}
 
 -- how often a wire stands in a run
 pub times-run_out : (wire from count : ℕ) → from + count ≤ wire → times wire (run from count) ≡ 0
 times-run_out wire from zero high = refl
 times-run_out wire from (suc count) high =
-    let e : once wire from ≡ 0 = once-other wire from (nat_eq-other wire from (λ e. omega arith)) in
+    let e : once wire from ≡ 0 = once-other wire from (ne_eqb wire from (λ e. omega arith)) in
     let rest = times-run_out wire (suc from) count (omega arith) in omega (arith, e, rest)
 
-pub times-run_before : (wire from count : ℕ) → wire < from → times wire (run from count) ≡ 0
+times-run_before : (wire from count : ℕ) → wire < from → times wire (run from count) ≡ 0
 times-run_before wire from zero low = refl
 times-run_before wire from (suc count) low =
-    let e : once wire from ≡ 0 = once-other wire from (nat_eq-other wire from (λ e. omega arith)) in
+    let e : once wire from ≡ 0 = once-other wire from (ne_eqb wire from (λ e. omega arith)) in
     let rest = times-run_before wire (suc from) count (omega arith) in omega (arith, e, rest)
 
 pub times-run_once : (wire from count : ℕ) → times wire (run from count) ≤ 1
@@ -41,7 +46,7 @@ times-run_once wire from (suc count) = by (nat_eq wire from) refl (times-run_onc
 -- the used inputs make a run of wires
 pub input_wires-run : (chained : Chained) (input next more : ℕ) → flat_map option_to_list (input_wires chained input next more) ≡ run next (wire_count (input_wires chained input next more))
 input_wires-run chained input next zero = refl
-input_wires-run chained input next (suc more) = by (is_used chained (Input input)) (λ from. input_wires-run chained (input + 1) from more)
+input_wires-run chained input next (suc more) = by (is_used input (uses_of chained.gates)) (λ from. input_wires-run chained (input + 1) from more)
   where
     by : (used : Bool) → ((from : ℕ) → flat_map option_to_list (input_wires chained (input + 1) from more) ≡ run from (wire_count (input_wires chained (input + 1) from more))) →
         flat_map option_to_list (cond used (Some next) None ∷ input_wires chained (input + 1) (next + cond used 1 0) more)
@@ -54,7 +59,7 @@ input_wires-run chained input next (suc more) = by (is_used chained (Input input
 
 pub length-input_wires : (chained : Chained) (input next more : ℕ) → length (input_wires chained input next more) ≡ more
 length-input_wires chained input next zero = refl
-length-input_wires chained input next (suc more) = ap suc (length-input_wires chained (input + 1) (next + cond (is_used chained (Input input)) 1 0) more)
+length-input_wires chained input next (suc more) = ap suc (length-input_wires chained (input + 1) (next + cond (is_used input (uses_of chained.gates)) 1 0) more)
 
 -- a wire of an input is found at stage 0, and no other
 pub found-input : (wires : List (Option ℕ)) (place wire : ℕ) → 1 ≤ times wire (flat_map option_to_list wires) → found (made_inputs input_stage place wires) wire ≡ Some 0
@@ -84,27 +89,10 @@ before_input input (Gate k) = false
 
 pub before_input-next : (input : ℕ) (driver : Driver) → before_input (input + 1) driver ≡ and_driver (before_input input) (Input input) driver
 before_input-next input (Gate k) = refl
-before_input-next input (Input i) = by (nat_lt i input) (nat_eq input i) (nat_lt i (input + 1)) refl refl refl
-  where
-    by : (before here within : Bool) → nat_lt i input ≡ before → nat_eq input i ≡ here → nat_lt i (input + 1) ≡ within → within ≡ (before || here)
-    by true here true b h w = refl
-    by false true true b h w = refl
-    by false false false b h w = refl
-    by true here false b h w = absurd (true≢false (sym (lt-ltb i (input + 1) (omega (arith, ltb-true i input b))) ∙ w))
-    by false true false b h w = absurd (true≢false (sym (lt-ltb i (input + 1) (omega (arith, eqb-true input i h))) ∙ w))
-    by false false true b h w = absurd (omega (arith, nat_eq-differs input i h, ltb-true i (input + 1) w, ltb-false i input b))
+before_input-next input (Input i) = nat_lt-next i input
 
 pub before_input-late : (input : ℕ) (other : Driver) → same_driver (Input input) other ≡ true → before_input input other ≡ false
-before_input-late input (Gate k) same = refl
-before_input-late input (Input i) same = by (nat_lt i input) refl
-  where
-    by : (before : Bool) → nat_lt i input ≡ before → before ≡ false
-    by true b = absurd (omega (arith, eqb-true input i same, ltb-true i input b))
-    by false b = refl
-
-tap_stage-input : (chained : Chained) (input : ℕ) (other : Driver) (its : ℕ) → same_driver (Input input) other ≡ true → tap_stage chained other its ≡ 0 + chained.n * its
-tap_stage-input chained input (Input i) its same = refl
-tap_stage-input chained input (Gate k) its same = absurd (true≢false (sym same))
+before_input-late input other same = ap (before_input input) (sym ((same_driver-decides (Input input) other).0 same)) ∙ le-ltb input input (omega arith)
 
 -- an unused input changes nothing
 pub Agree-unused : (needs : List ℕ) (reached : Driver → Bool) (driver : Driver) (pin : ℕ) (drivers : List Driver) → list_any (same_driver driver) drivers ≡ false → Agree (by_driver reached) (by_driver (and_driver reached driver)) needs pin drivers
@@ -133,12 +121,12 @@ Stands-inputs chained first start input next zero layout some are h =
 Stands-inputs chained first start input next (suc more) layout some are h =
     let e : (input + 1) + more ≡ input + suc more = omega arith in
     subst (λ k. Stands chained.n first start (tap_stage chained) chained.needs 0 (pin_drivers chained.gates) (by_driver (before_input k)) (λ w. 0) (with_inputs chained input (input_wires chained input next (suc more)) layout)) e
-    (by (is_used chained (Input input)) refl are h (λ from lay all stands. Stands-inputs chained first start (input + 1) from more lay some all stands))
+    (by (is_used input (uses_of chained.gates)) (sym (is_used-uses_of chained.gates input)) are h (λ from lay all stands. Stands-inputs chained first start (input + 1) from more lay some all stands))
   where
     drivers : List Driver
     drivers = pin_drivers chained.gates
 
-    by : (used : Bool) → is_used chained (Input input) ≡ used →
+    by : (used : Bool) → list_any (same_driver (Input input)) (pin_drivers chained.gates) ≡ used →
         AreFound start 0 (flat_map option_to_list (cond used (Some next) None ∷ input_wires chained (input + 1) (next + cond used 1 0) more)) →
         Stands chained.n first start (tap_stage chained) chained.needs 0 (pin_drivers chained.gates) (by_driver (before_input input)) (λ w. times w (flat_map option_to_list (cond used (Some next) None ∷ input_wires chained (input + 1) (next + cond used 1 0) more))) layout →
         ((from : ℕ) (lay : Layout) → AreFound start 0 (flat_map option_to_list (input_wires chained (input + 1) from more)) →
@@ -148,8 +136,8 @@ Stands-inputs chained first start input next (suc more) layout some are h =
     by true used are h rest =
         let waits : ℕ → ℕ = λ w. times w (flat_map option_to_list (input_wires chained (input + 1) (next + 1) more)) in
         let done = Stands-chain chained.n first start (tap_stage chained) chained.needs [] (pin_drivers chained.gates) (before_input input) waits (Input input) 0 next layout some tt
-        (before_input-late input) (tap_stage-input chained input) (tap_count-some chained.needs (Input input) 0 (pin_drivers chained.gates) used)
-        (record { stands = h; source = after-stays start layout.elements next 0 are.0 }) in
+        (before_input-late input) (tap_stage-same chained (Input input)) ((tap_count-some chained.needs (Input input) 0 (pin_drivers chained.gates)).0 used)
+        (record { stands = h; source = after_elements-found 0 cell_stage start layout.elements next 0 are.0 }) in
         rest (next + 1) (with_chain chained.n 0 next (taps_of chained (Input input)) layout) are.1
         (Stands-agree chained.n first start (tap_stage chained) chained.needs 0 (pin_drivers chained.gates) (by_driver (and_driver (before_input input) (Input input))) (by_driver (before_input (input + 1))) waits
         (with_chain chained.n 0 next (taps_of chained (Input input)) layout)

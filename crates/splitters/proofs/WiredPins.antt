@@ -6,10 +6,11 @@ use Rattle.std.specs.Prelude.{Some, ⊤}
 use Rattle.gate_net.specs.declared.row.Driver.{Driver}
 use Rattle.gate_net.specs.Rows.{same_driver}
 use Rattle.pulse_net.specs.declared.net.Element.{Element}
-use Rattle.pulse_net.specs.Wires.{Wires, found}
+use Rattle.pulse_net.specs.Wires.{Wires, found, cell_stage}
+use Rattle.pulse_net.proofs.CallerLemmas.{after_elements-found}
 use Rattle.splitters.specs.Elements.{take_wires}
 use Rattle.splitters.specs.Taps.{with_pin, takers}
-use Rattle.splitters.proofs.WiredCounts.{once, times, after, after-stays, AreFound}
+use Rattle.splitters.proofs.WiredCounts.{once, times, after, AreFound}
 
 -- which taps are laid out: of a driver, by the need of their pins
 abbrev pub Marks : Type 0
@@ -52,17 +53,17 @@ pub AreStaged-stay : (made : Wires ℕ) (elements : List Element) (stage : Drive
     AreStaged made stage marks needs taken pin drivers → AreStaged (after made elements) stage marks needs taken pin drivers
 AreStaged-stay made elements stage marks needs taken pin [] h = tt
 AreStaged-stay made elements stage marks needs taken pin (driver ∷ drivers) h =
-    (λ e. after-stays made elements (get_or taken pin 0) (stage driver (get_or needs pin 0)) (h.0 e), AreStaged-stay made elements stage marks needs taken (pin + 1) drivers h.1)
+    (λ e. after_elements-found 0 cell_stage made elements (get_or taken pin 0) (stage driver (get_or needs pin 0)) (h.0 e), AreStaged-stay made elements stage marks needs taken (pin + 1) drivers h.1)
 
 -- an earlier pin's wire doesn't matter
-pub held-set : (marks : Marks) (needs taken : List ℕ) (p wire pin : ℕ) (drivers : List Driver) → p < pin → held marks needs (set taken p wire) pin drivers ≡ held marks needs taken pin drivers
+held-set : (marks : Marks) (needs taken : List ℕ) (p wire pin : ℕ) (drivers : List Driver) → p < pin → held marks needs (set taken p wire) pin drivers ≡ held marks needs taken pin drivers
 held-set marks needs taken p wire pin [] early = refl
 held-set marks needs taken p wire pin (driver ∷ drivers) early =
     let here : get_or (set taken p wire) pin 0 ≡ get_or taken pin 0 = get_or-set_other taken p pin wire 0 (λ e. omega arith) in
     let rest = held-set marks needs taken p wire (pin + 1) drivers (omega arith) in
     λ i. with_pin (marks driver (get_or needs pin 0)) (here i) (rest i)
 
-pub AreStaged-set : {A : Type 0} (made : Wires A) (stage : Driver → ℕ → A) (marks : Marks) (needs taken : List ℕ) (p wire pin : ℕ) (drivers : List Driver) → p < pin →
+AreStaged-set : {A : Type 0} (made : Wires A) (stage : Driver → ℕ → A) (marks : Marks) (needs taken : List ℕ) (p wire pin : ℕ) (drivers : List Driver) → p < pin →
     AreStaged made stage marks needs taken pin drivers → AreStaged made stage marks needs (set taken p wire) pin drivers
 AreStaged-set made stage marks needs taken p wire pin [] early h = tt
 AreStaged-set made stage marks needs taken p wire pin (driver ∷ drivers) early h =
@@ -70,7 +71,7 @@ AreStaged-set made stage marks needs taken p wire pin (driver ∷ drivers) early
     (λ e. ap (found made) here ∙ h.0 e, AreStaged-set made stage marks needs taken p wire (pin + 1) drivers (omega arith) h.1)
 
 -- pins take their wires and leave those of earlier pins
-pub get_or-taken : (needs : List ℕ) (driver : Driver) (need pin : ℕ) (drivers : List Driver) (wires taken : List ℕ) (p : ℕ) → p < pin →
+get_or-taken : (needs : List ℕ) (driver : Driver) (need pin : ℕ) (drivers : List Driver) (wires taken : List ℕ) (p : ℕ) → p < pin →
     get_or (take_wires (takers needs driver need pin drivers) wires taken) p 0 ≡ get_or taken p 0
 get_or-taken needs driver need pin [] wires taken p early = refl
 get_or-taken needs driver need pin (other ∷ drivers) wires taken p early =

@@ -1,36 +1,36 @@
 -- Chains that mean a netlist keep time: a pin's need leaves 1 to n ticks, whatever the phases.
-use Rattle.std.proofs.Common.{◌≡◌, ◌≤◌, ◌<◌, ℕ, zero, suc, ◌+◌, ◌-◌, ◌*◌, List, [], ◌∷◌, ◌++◌, length, get_or, map, All, refl, ap, sym, subst, ◌∙◌, arith, length-append, append_assoc}
-use Rattle.std.proofs.lemmas.List.{append-nil, length-map}
-use Rattle.std.proofs.lemmas.List.Elements.{All-head, All-tail, recursion_from_All}
-use Rattle.std.specs.Prelude.{⊤, flat_map}
+use Rattle.std.proofs.Common.{◌≡◌, ◌≤◌, ◌<◌, ℕ, suc, ◌+◌, ◌-◌, ◌*◌, List, [], ◌∷◌, ◌++◌, length, get_or, map, All, refl, ap, sym, subst, ◌∙◌, arith, length-append, append_assoc}
+use Rattle.std.proofs.lemmas.List.{append-nil, get_or_past, nil_from_length, length-map, map-append}
+use Rattle.std.proofs.lemmas.List.Elements.{All-head, All-tail, All-weaker, recursion_from_All}
+use Rattle.std.specs.Prelude.{flat_map}
 use Rattle.std.specs.List.{AllByRecursion}
+use Rattle.net_base.proofs.CallerLemmas.{get_or-below, AllByRecursion-middle}
 use Rattle.gate_net.specs.declared.row.Driver.{Driver}
 use Rattle.gate_net.specs.declared.row.Driver.TheVariants.{Input, Gate}
-use Rattle.gate_net.specs.declared.row.End.{End}
-use Rattle.gate_net.specs.declared.row.End.TheVariants.{Zero as False, One as True, From}
 use Rattle.gate_net.specs.declared.row.GateRow.{GateRow}
 use Rattle.gate_net.specs.declared.net.GateNet.{GateNet}
-use Rattle.gate_net.specs.Net.{IsThere, IsEndThere, IsGate, end_drivers}
-use Rattle.phase_rule.specs.Levels.{driver_phase}
+use Rattle.gate_net.specs.Net.{IsThere, end_drivers}
+use Rattle.gate_net.specs.Entries.{entry_of}
+use Rattle.gate_net.proofs.CallerLemmas.{IsThere-more, All-end_drivers}
 use Rattle.phase_rule.specs.Stages.{stage_of, weight_of, need_over_epochs}
-use Rattle.phase_rule.proofs.Gaps.{need_gaps_agree, need_leaves_window}
+use Rattle.phase_rule.proofs.CallerLemmas.{need_gaps_agree, need_leaves_window}
 use Rattle.flow_net.specs.declared.uses.Use.{Use}
 use Rattle.flow_net.specs.declared.net.Epochs.{Epochs}
 use Rattle.flow_net.specs.Uses.{use_by, gate_uses, sink_of, uses_of}
 use Rattle.flow_net.specs.Network.{vertex_of, vertex_phase, pin_of}
 use Rattle.flow_net.specs.Epochs.{epoch_at, IsPinBalanced, need_of}
+use Rattle.flow_net.proofs.CallerLemmas.{length-uses_of}
 use Rattle.dro_chains.specs.Chains.{chained_of, stages_of}
+use Rattle.dro_chains.proofs.CallerLemmas.{get_or-stages}
 use Rattle.pulse_net.specs.Wired.{IsInTime}
 use Rattle.dro_chains.specs.declared.chain.Chained.{Chained}
 use Rattle.splitters.specs.Elements.{gate_pins}
-use Rattle.splitters.specs.Taps.{driver_stage}
 use Rattle.splitters.specs.Laws.{PinsInTime, GatesInTime, ChainsKeepTime, ChainsAreValid}
-use Rattle.splitters.proofs.LayoutLemmas.{length-gate_drivers}
 use Rattle.splitters.proofs.WiredGates.{AreGatesFrom}
-use Rattle.splitters.proofs.WiredWhole.{gates-from, layout_is_valid}
+use Rattle.splitters.proofs.WiredWhole.{gates-all, layout_is_valid}
 
 -- A pin behind as many DROs as it needs is read in time.
-pub need-in_time : (n user_epoch user_phase driver_epoch driver_phase : ℕ) → 0 < n → user_phase < n → driver_phase < n → driver_epoch + weight_of user_phase driver_phase ≤ user_epoch →
+need-in_time : (n user_epoch user_phase driver_epoch driver_phase : ℕ) → 0 < n → user_phase < n → driver_phase < n → driver_epoch + weight_of user_phase driver_phase ≤ user_epoch →
     IsInTime n (stage_of n driver_epoch driver_phase + n * need_over_epochs user_epoch driver_epoch (weight_of user_phase driver_phase)) (stage_of n user_epoch user_phase)
 need-in_time n a p b q some pn qn balanced =
     let agree = need_gaps_agree n a p b q pn qn in
@@ -40,46 +40,6 @@ need-in_time n a p b q some pn qn balanced =
     let window = need_leaves_window n gap some (omega arith) in
     let same = ap (λ k. n * k) need in
     record { after = omega (arith, same, window.0, later); within = omega (arith, same, window.1, later) }
-
-get_or-past : (xs : List ℕ) (d : ℕ) → get_or xs (length xs) d ≡ d
-get_or-past [] d = refl
-get_or-past (x ∷ xs) d = get_or-past xs d
-
-get_or-below : (n : ℕ) (phases : List ℕ) (k : ℕ) → 0 < n → All (λ phase. phase < n) phases → get_or phases k 0 < n
-get_or-below n [] k some all = some
-get_or-below n (phase ∷ phases) zero some all = All-head (λ phase. phase < n) phase phases all
-get_or-below n (phase ∷ phases) (suc k) some all = get_or-below n phases k some (All-tail (λ phase. phase < n) phase phases all)
-
-pub get_or-stages : (n : ℕ) (epochs phases : List ℕ) (k d : ℕ) → k < length epochs → k < length phases → get_or (stages_of n epochs phases) k 0 ≡ stage_of n (get_or epochs k d) (get_or phases k 0)
-get_or-stages n [] phases k d low within = absurd (omega arith)
-get_or-stages n (epoch ∷ epochs) [] k d low within = absurd (omega arith)
-get_or-stages n (epoch ∷ epochs) (phase ∷ phases) zero d low within = refl
-get_or-stages n (epoch ∷ epochs) (phase ∷ phases) (suc k) d low within = get_or-stages n epochs phases k d (omega arith) (omega arith)
-
-all-middle : {A B : Type 0} (P : B → Type 0) (g : A → B) (before after : List A) (x : A) → AllByRecursion P (map g (before ++ x ∷ after)) → P (g x)
-all-middle P g [] after x all = all.0
-all-middle P g (y ∷ before) after x all = all-middle P g before after x all.1
-
--- the drivers of these pins are no gates past the last
-abbrev pub AreBelowGate : ℕ → List Driver → Type 0
-AreBelowGate gates [] = ⊤
-AreBelowGate gates (Input i ∷ drivers) = AreBelowGate gates drivers
-AreBelowGate gates (Gate k ∷ drivers) = (k < gates) × AreBelowGate gates drivers
-
-below-there : (inputs place gates : ℕ) (drivers : List Driver) → place ≤ gates → All (IsThere inputs place) drivers → AreBelowGate gates drivers
-below-there inputs place gates [] low all = tt
-below-there inputs place gates (Input i ∷ drivers) low all = below-there inputs place gates drivers low (All-tail (IsThere inputs place) (Input i) drivers all)
-below-there inputs place gates (Gate k ∷ drivers) low all =
-    let here : k < place = All-head (IsThere inputs place) (Gate k) drivers all in
-    (omega (arith, here), below-there inputs place gates drivers low (All-tail (IsThere inputs place) (Gate k) drivers all))
-
-below-ends : (inputs gates : ℕ) (ends : List End) → All (IsEndThere inputs gates) ends → AreBelowGate gates (flat_map end_drivers ends)
-below-ends inputs gates [] all = tt
-below-ends inputs gates (False ∷ ends) all = below-ends inputs gates ends (All-tail (IsEndThere inputs gates) False ends all)
-below-ends inputs gates (True ∷ ends) all = below-ends inputs gates ends (All-tail (IsEndThere inputs gates) True ends all)
-below-ends inputs gates (From (Input i) ∷ ends) all = below-ends inputs gates ends (All-tail (IsEndThere inputs gates) (From (Input i)) ends all)
-below-ends inputs gates (From (Gate k) ∷ ends) all =
-    (All-head (IsEndThere inputs gates) (From (Gate k)) ends all, below-ends inputs gates ends (All-tail (IsEndThere inputs gates) (From (Gate k)) ends all))
 
 -- what the chains give, in the order of uses
 record Chains (chained : Chained) (net : GateNet) (phases : List ℕ) (epochs : Epochs) : Type 0 where
@@ -91,45 +51,41 @@ record Chains (chained : Chained) (net : GateNet) (phases : List ℕ) (epochs : 
   epochs_each : length epochs.gates ≡ length net.gates
   phases_each : length phases ≡ length net.gates
 
-driver-stage : (chained : Chained) (net : GateNet) (phases : List ℕ) (epochs : Epochs) → Chains chained net phases epochs → (driver : Driver) → AreBelowGate (length net.gates) (driver ∷ []) →
-    driver_stage chained driver ≡ stage_of chained.n (epoch_at epochs (vertex_of driver)) (driver_phase phases driver)
-driver-stage chained net phases epochs chains (Input i) below = omega arith
-driver-stage chained net phases epochs chains (Gate k) below =
-    let e = chains.epochs_each in let p = chains.phases_each in let b = below.0 in
-    ap (λ (s : List ℕ). get_or s k 0) chains.stages ∙ get_or-stages chained.n epochs.gates phases k epochs.sink (omega (arith, e, b)) (omega (arith, p, b))
+driver-stage : (chained : Chained) (net : GateNet) (phases : List ℕ) (epochs : Epochs) → Chains chained net phases epochs → (driver : Driver) → IsThere net.inputs (length net.gates) driver →
+    entry_of chained.stages driver ≡ stage_of chained.n (epoch_at epochs (vertex_of driver)) (entry_of phases driver)
+driver-stage chained net phases epochs chains (Input i) there = omega arith
+driver-stage chained net phases epochs chains (Gate k) there =
+    let e = chains.epochs_each in let p = chains.phases_each in
+    ap (λ (s : List ℕ). get_or s k 0) chains.stages ∙ get_or-stages chained.n epochs.gates phases k epochs.sink (omega (arith, e)) (omega (arith, p))
 
-driver-below : (chained : Chained) (net : GateNet) (phases : List ℕ) (epochs : Epochs) → Chains chained net phases epochs → (driver : Driver) → driver_phase phases driver < chained.n
+driver-below : (chained : Chained) (net : GateNet) (phases : List ℕ) (epochs : Epochs) → Chains chained net phases epochs → (driver : Driver) → entry_of phases driver < chained.n
 driver-below chained net phases epochs chains (Input i) = chains.some
 driver-below chained net phases epochs chains (Gate k) = get_or-below chained.n phases k chains.some chains.below
-
--- the head of pins that are below
-below-head : (gates : ℕ) (driver : Driver) (drivers : List Driver) → AreBelowGate gates (driver ∷ drivers) → AreBelowGate gates (driver ∷ []) × AreBelowGate gates drivers
-below-head gates (Input i) drivers h = (tt, h)
-below-head gates (Gate k) drivers h = ((h.0, tt), h.1)
 
 -- The pins of one user, behind those of earlier users.
 pins-timed : (chained : Chained) (net : GateNet) (phases : List ℕ) (epochs : Epochs) → Chains chained net phases epochs → (before after : List Use) (vertex pin user : ℕ) (drivers : List Driver) →
     uses_of net ≡ before ++ (map (use_by vertex) drivers ++ after) → pin ≡ length before →
     user ≡ stage_of chained.n (epoch_at epochs vertex) (vertex_phase phases vertex) → vertex_phase phases vertex < chained.n →
-    AreBelowGate (length net.gates) drivers → PinsInTime chained user pin drivers
+    All (IsThere net.inputs (length net.gates)) drivers → PinsInTime chained user pin drivers
 pins-timed chained net phases epochs chains before after vertex pin user [] all here at low there = tt
 pins-timed chained net phases epochs chains before after vertex pin user (driver ∷ drivers) all here at low there =
     let n = chained.n in
     let one = use_by vertex driver in
     let rest = map (use_by vertex) drivers ++ after in
     let f : Use → ℕ = λ (u : Use). need_of epochs (pin_of net phases u) in
-    let split = below-head (length net.gates) driver drivers there in
-    let balance : IsPinBalanced epochs (pin_of net phases one) = all-middle (IsPinBalanced epochs) (pin_of net phases) before rest one (subst (λ (us : List Use). AllByRecursion (IsPinBalanced epochs) (map (pin_of net phases) us)) all chains.balanced) in
+    let balance : IsPinBalanced epochs (pin_of net phases one) =
+    AllByRecursion-middle (IsPinBalanced epochs) (map (pin_of net phases) before) (map (pin_of net phases) rest) (pin_of net phases one)
+    (subst (AllByRecursion (IsPinBalanced epochs)) (ap (map (pin_of net phases)) all ∙ map-append (pin_of net phases) before (one ∷ rest)) chains.balanced) in
     let need : get_or chained.needs pin 0 ≡ need_of epochs (pin_of net phases one) =
     (λ i. get_or (chains.needs i) (here i) 0) ∙ ap (λ (us : List Use). get_or (map (need_of epochs) (map (pin_of net phases) us)) (length before) 0) all
     ∙ get_or-pins epochs net phases before rest one in
-    let timed = need-in_time n (epoch_at epochs vertex) (vertex_phase phases vertex) (epoch_at epochs (vertex_of driver)) (driver_phase phases driver) chains.some low (driver-below chained net phases epochs chains driver) balance in
-    let stage = driver-stage chained net phases epochs chains driver split.0 in
+    let timed = need-in_time n (epoch_at epochs vertex) (vertex_phase phases vertex) (epoch_at epochs (vertex_of driver)) (entry_of phases driver) chains.some low (driver-below chained net phases epochs chains driver) balance in
+    let stage = driver-stage chained net phases epochs chains driver (All-head (IsThere net.inputs (length net.gates)) driver drivers there) in
     let next : pin + 1 ≡ length (before ++ one ∷ []) = omega (arith, here, length-append before (one ∷ [])) in (
-      subst (λ u. IsInTime n (driver_stage chained driver + n * get_or chained.needs pin 0) u) (sym at)
+      subst (λ u. IsInTime n (entry_of chained.stages driver + n * get_or chained.needs pin 0) u) (sym at)
           (subst (λ s. IsInTime n (s + n * get_or chained.needs pin 0) (stage_of n (epoch_at epochs vertex) (vertex_phase phases vertex))) (sym stage)
-          (subst (λ k. IsInTime n (stage_of n (epoch_at epochs (vertex_of driver)) (driver_phase phases driver) + n * k) (stage_of n (epoch_at epochs vertex) (vertex_phase phases vertex))) (sym need) timed)),
-      pins-timed chained net phases epochs chains (before ++ one ∷ []) after vertex (pin + 1) user drivers (all ∙ sym (append_assoc before (one ∷ []) rest)) next at low split.1,
+          (subst (λ k. IsInTime n (stage_of n (epoch_at epochs (vertex_of driver)) (entry_of phases driver) + n * k) (stage_of n (epoch_at epochs vertex) (vertex_phase phases vertex))) (sym need) timed)),
+      pins-timed chained net phases epochs chains (before ++ one ∷ []) after vertex (pin + 1) user drivers (all ∙ sym (append_assoc before (one ∷ []) rest)) next at low (All-tail (IsThere net.inputs (length net.gates)) driver drivers there),
     )
   where
     get_or-pins : (epochs : Epochs) (net : GateNet) (phases : List ℕ) (before after : List Use) (x : Use) → get_or (map (need_of epochs) (map (pin_of net phases) (before ++ x ∷ after))) (length before) 0 ≡ need_of epochs (pin_of net phases x)
@@ -152,7 +108,7 @@ gates-timed chained net phases epochs chains before after gate pin (row ∷ rows
     let next : gate + 1 ≡ suc gate = omega arith in
     let many = length-map row.pins (use_by (suc gate)) in (
       pins-timed chained net phases epochs chains before (later ++ after) (suc gate) pin (get_or chained.stages gate 0) row.pins whole here at (get_or-below chained.n phases gate chains.some chains.below)
-          (below-there net.inputs gate (length net.gates) row.pins (omega (arith, each)) gates.0.drivers),
+          (All-weaker (IsThere net.inputs gate) (IsThere net.inputs (length net.gates)) (IsThere-more net.inputs gate (length net.gates) (omega (arith, each))) row.pins gates.0.drivers),
       gates-timed chained net phases epochs chains (before ++ mine) after (gate + 1) (pin + length row.pins) rows
           (whole ∙ sym (append_assoc before mine (later ++ after)) ∙ ap (λ g. (before ++ mine) ++ (gate_uses (suc g) rows ++ after)) (sym next))
           (omega (arith, here, many, length-append before mine)) (omega (arith, each)) gates.1,
@@ -164,10 +120,6 @@ length-gate_uses user (row ∷ rows) =
     let rest = length-gate_uses (suc user) rows in
     let many = length-map row.pins (use_by user) in
     omega (arith, rest, many, length-append (map (use_by user) row.pins) (gate_uses (suc user) rows))
-
-none-used : (uses : List Use) → length uses ≡ 0 → uses ≡ []
-none-used [] h = refl
-none-used (u ∷ uses) h = absurd (omega arith)
 
 -- Chains that mean a netlist keep time.
 pub chains_keep_time : ChainsKeepTime
@@ -190,36 +142,29 @@ chains_keep_time net phases n epochs has =
       epochs_each = e;
       phases_each = p;
     } in
-    let gates : AreGatesFrom net.inputs 0 rows = gates-from net.inputs 0 rows (λ place d low. let z : place ≡ 0 + place = omega arith in subst (λ g. IsGate net.inputs g (get_or rows place d)) z (formed.gates place d low)) in
+    let gates : AreGatesFrom net.inputs 0 rows = gates-all net.inputs rows formed.gates in
     let last = map (use_by sink) outs in
     let by_gates = gate_uses 1 rows in
     let timed_gates : GatesInTime chained 0 0 rows = gates-timed chained net phases epochs chains [] last 0 0 rows refl refl (omega arith) gates in
     let nil = append-nil last in
     let whole : uses_of net ≡ by_gates ++ (last ++ []) = ap (λ (us : List Use). by_gates ++ us) (sym nil) in
     let reading : chained.n * chained.latency ≡ stage_of chained.n (epoch_at epochs sink) (vertex_phase phases sink) =
-    let at : epoch_at epochs sink ≡ epochs.sink = ap (λ k. get_or epochs.gates k epochs.sink) (sym e) ∙ get_or-past epochs.gates epochs.sink in
-    let zero_phase : vertex_phase phases sink ≡ 0 = ap (λ k. get_or phases k 0) (sym p) ∙ get_or-past phases 0 in
+    let at : epoch_at epochs sink ≡ epochs.sink = get_or_past epochs.gates (length rows) epochs.sink (omega (arith, e)) in
+    let zero_phase : vertex_phase phases sink ≡ 0 = get_or_past phases (length rows) 0 (omega (arith, p)) in
     let same = ap (λ k. chained.n * k) (sym at) in
     omega (arith, same, zero_phase) in
     let timed_outs : PinsInTime chained (chained.n * chained.latency) (gate_pins rows) outs =
     pins-timed chained net phases epochs chains by_gates [] sink (gate_pins rows) (chained.n * chained.latency) outs whole (sym (length-gate_uses 1 rows)) reading
-    (get_or-below chained.n phases (length net.gates) some chains.below) (below-ends net.inputs (length rows) ends formed.outputs) in
+    (get_or-below chained.n phases (length net.gates) some chains.below) (All-end_drivers net.inputs (length rows) ends formed.outputs) in
     record {
       formed = formed;
       used = has.used;
       some_phase = some;
-      few_phases = has.sixteen_phases;
+      few_phases = has.few_phases;
       latency = has.latency;
       gates = timed_gates;
       outputs = timed_outs;
-      empty = λ none.
-          let a = ap length none in
-          let b = length-append (flat_map (λ (row : GateRow). row.pins) rows) outs in
-          let c = length-gate_drivers rows in
-          let d = length-append by_gates last in
-          let f = length-gate_uses 1 rows in
-          let g = length-map outs (use_by sink) in
-          has.empty (none-used (uses_of net) (omega (arith, a, b, c, d, f, g)));
+      empty = λ none. has.empty (nil_from_length (uses_of net) (length-uses_of net ∙ ap length none));
     }
 
 -- So they are laid out as a valid netlist.

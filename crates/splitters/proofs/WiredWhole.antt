@@ -3,7 +3,7 @@ use Rattle.std.proofs.Common.{◌≡◌, ◌≤◌, ◌<◌, ℕ, suc, ◌+◌, 
 use Rattle.std.proofs.lemmas.Bool.{true≢false, lt-ltb, le-ltb, or_left, or_right}
 use Rattle.std.proofs.lemmas.List.{append-nil, length-replicate}
 use Rattle.std.proofs.lemmas.List.Elements.{All-nil, All-head, All-tail}
-use Rattle.std.specs.Prelude.{Option, ⊤, flat_map, option_to_list}
+use Rattle.std.specs.Prelude.{Option, flat_map, option_to_list}
 use Rattle.std.specs.List.{list_any}
 use Rattle.std.specs.Cmp.{nat_eq_equiv}
 use Rattle.gate_net.specs.declared.row.Driver.{Driver}
@@ -11,13 +11,14 @@ use Rattle.gate_net.specs.declared.row.Driver.TheVariants.{Input, Gate}
 use Rattle.gate_net.specs.declared.row.End.{End}
 use Rattle.gate_net.specs.declared.row.End.TheVariants.{Zero as False, One as True, From}
 use Rattle.gate_net.specs.declared.row.GateRow.{GateRow}
-use Rattle.gate_net.specs.Net.{IsThere, IsEndThere, IsGate, pin_drivers, end_drivers}
+use Rattle.gate_net.specs.Net.{IsThere, IsEndThere, IsGate, AreGates, pin_drivers, end_drivers}
+use Rattle.gate_net.proofs.CallerLemmas.{All-end_drivers, pin_drivers-there}
 use Rattle.pulse_net.specs.declared.net.Names.{Names}
 use Rattle.pulse_net.specs.Formed.{HasItsPins}
 use Rattle.pulse_net.specs.Wires.{Wires, element_uses, outlet_uses, input_stage, uses_of, input_wires as made_inputs}
 use Rattle.pulse_net.specs.Wired.{makes_of, OutletsInTime, IsWired}
 use Rattle.pulse_net.specs.Validity.{has_wire}
-use Rattle.pulse_net.proofs.Unbroken.{unbroken}
+use Rattle.pulse_net.proofs.CallerLemmas.{unbroken}
 use Rattle.dro_chains.specs.declared.chain.Chained.{Chained}
 use Rattle.splitters.specs.Elements.{wire_count, with_inputs, gate_pins, outlets, inputs_of, empty_layout, layout_of, elements_of}
 use Rattle.splitters.specs.Taps.{with_pin, tap_count}
@@ -26,18 +27,18 @@ use Rattle.splitters.proofs.WiredCounts.{times, times-append, run, run-split, af
 use Rattle.splitters.proofs.WiredPins.{Marks, held, AreStaged, Agree}
 use Rattle.splitters.proofs.Takers.{DrivesNone}
 use Rattle.splitters.proofs.WiredChains.{Stands, Stands-agree, by_driver, tap_count-late}
-use Rattle.splitters.proofs.WiredGates.{pin_wires, AreReached, held-reached, before_gate, AreGatesFrom, tap_count-gate, Stands-gates, DrivesNone-there, DrivesNone-append}
+use Rattle.splitters.proofs.WiredGates.{pin_wires, AreReached, held-reached, before_gate, before_gate-there, AreGatesFrom, tap_count-gate, Stands-gates, DrivesNone-there, DrivesNone-append}
 use Rattle.splitters.proofs.WiredInputs.{times-run_out, times-run_once, input_wires-run, length-input_wires, found-input, found-no_input, before_input, Stands-inputs}
 
 -- ---- outputs
 
-pub outlets-uses : (taken : List ℕ) (pin : ℕ) (ends : List End) → flat_map outlet_uses (outlets taken pin ends) ≡ pin_wires taken pin (flat_map end_drivers ends)
+outlets-uses : (taken : List ℕ) (pin : ℕ) (ends : List End) → flat_map outlet_uses (outlets taken pin ends) ≡ pin_wires taken pin (flat_map end_drivers ends)
 outlets-uses taken pin [] = refl
 outlets-uses taken pin (False ∷ ends) = outlets-uses taken pin ends
 outlets-uses taken pin (True ∷ ends) = outlets-uses taken pin ends
 outlets-uses taken pin (From driver ∷ ends) = ap (λ ws. get_or taken pin 0 ∷ ws) (outlets-uses taken (pin + 1) ends)
 
-pub length-outlets : (taken : List ℕ) (pin : ℕ) (ends : List End) → length (outlets taken pin ends) ≡ length ends
+length-outlets : (taken : List ℕ) (pin : ℕ) (ends : List End) → length (outlets taken pin ends) ≡ length ends
 length-outlets taken pin [] = refl
 length-outlets taken pin (False ∷ ends) = ap suc (length-outlets taken pin ends)
 length-outlets taken pin (True ∷ ends) = ap suc (length-outlets taken pin ends)
@@ -61,17 +62,9 @@ outlets-some taken pin (From driver ∷ ends) h = absurd (true≢false h)
 -- ---- drivers that are there
 
 pub ends-reached : (inputs gates : ℕ) (ends : List End) → All (IsEndThere inputs gates) ends → AreReached (before_gate gates) (flat_map end_drivers ends)
-ends-reached inputs gates [] all = tt
-ends-reached inputs gates (False ∷ ends) all = ends-reached inputs gates ends (All-tail (IsEndThere inputs gates) False ends all)
-ends-reached inputs gates (True ∷ ends) all = ends-reached inputs gates ends (All-tail (IsEndThere inputs gates) True ends all)
-ends-reached inputs gates (From driver ∷ ends) all =
-    (by driver (All-head (IsEndThere inputs gates) (From driver) ends all), ends-reached inputs gates ends (All-tail (IsEndThere inputs gates) (From driver) ends all))
-  where
-    by : (driver : Driver) → IsThere inputs gates driver → before_gate gates driver ≡ true
-    by (Input i) there = refl
-    by (Gate k) there = lt-ltb k gates there
+ends-reached inputs gates ends all = before_gate-there inputs gates (flat_map end_drivers ends) (All-end_drivers inputs gates ends all)
 
-pub gates-from : (inputs gate : ℕ) (rows : List GateRow) → ((place : ℕ) (d : GateRow) → place < length rows → IsGate inputs (gate + place) (get_or rows place d)) → AreGatesFrom inputs gate rows
+gates-from : (inputs gate : ℕ) (rows : List GateRow) → ((place : ℕ) (d : GateRow) → place < length rows → IsGate inputs (gate + place) (get_or rows place d)) → AreGatesFrom inputs gate rows
 gates-from inputs gate [] h = tt
 gates-from inputs gate (row ∷ rows) h =
     let z : gate + 0 ≡ gate = omega arith in (
@@ -79,45 +72,16 @@ gates-from inputs gate (row ∷ rows) h =
       gates-from inputs (gate + 1) rows (λ place d low. let e : gate + suc place ≡ (gate + 1) + place = omega arith in subst (λ g. IsGate inputs g (get_or rows place d)) e (h (suc place) d (omega arith))),
     )
 
--- a driver is no input past the last
-abbrev pub InputThere : ℕ → Driver → Type 0
-InputThere inputs (Input i) = i < inputs
-InputThere inputs (Gate k) = ⊤
-
-abbrev pub InputsThere : ℕ → List Driver → Type 0
-InputsThere inputs [] = ⊤
-InputsThere inputs (driver ∷ drivers) = InputThere inputs driver × InputsThere inputs drivers
-
-pub InputsThere-append : (inputs : ℕ) (xs ys : List Driver) → InputsThere inputs xs → InputsThere inputs ys → InputsThere inputs (xs ++ ys)
-InputsThere-append inputs [] ys before rest = rest
-InputsThere-append inputs (x ∷ xs) ys before rest = (before.0, InputsThere-append inputs xs ys before.1 rest)
-
-there-input : (inputs gates : ℕ) (driver : Driver) → IsThere inputs gates driver → InputThere inputs driver
-there-input inputs gates (Input i) there = there
-there-input inputs gates (Gate k) there = tt
-
-inputs-row : (inputs gates : ℕ) (drivers : List Driver) → All (IsThere inputs gates) drivers → InputsThere inputs drivers
-inputs-row inputs gates [] all = tt
-inputs-row inputs gates (driver ∷ drivers) all = (there-input inputs gates driver (All-head (IsThere inputs gates) driver drivers all), inputs-row inputs gates drivers (All-tail (IsThere inputs gates) driver drivers all))
-
-pub inputs-rows : (inputs gate : ℕ) (rows : List GateRow) → AreGatesFrom inputs gate rows → InputsThere inputs (flat_map (λ (row : GateRow). row.pins) rows)
-inputs-rows inputs gate [] gates = tt
-inputs-rows inputs gate (row ∷ rows) gates =
-    InputsThere-append inputs row.pins (flat_map (λ (row : GateRow). row.pins) rows) (inputs-row inputs gate row.pins gates.0.drivers) (inputs-rows inputs (gate + 1) rows gates.1)
-
-pub inputs-ends : (inputs gates : ℕ) (ends : List End) → All (IsEndThere inputs gates) ends → InputsThere inputs (flat_map end_drivers ends)
-inputs-ends inputs gates [] all = tt
-inputs-ends inputs gates (False ∷ ends) all = inputs-ends inputs gates ends (All-tail (IsEndThere inputs gates) False ends all)
-inputs-ends inputs gates (True ∷ ends) all = inputs-ends inputs gates ends (All-tail (IsEndThere inputs gates) True ends all)
-inputs-ends inputs gates (From driver ∷ ends) all =
-    (there-input inputs gates driver (All-head (IsEndThere inputs gates) (From driver) ends all), inputs-ends inputs gates ends (All-tail (IsEndThere inputs gates) (From driver) ends all))
+pub gates-all : (inputs : ℕ) (rows : List GateRow) → AreGates inputs rows → AreGatesFrom inputs 0 rows
+gates-all inputs rows gates = gates-from inputs 0 rows (λ place d low. let z : place ≡ 0 + place = omega arith in subst (λ g. IsGate inputs g (get_or rows place d)) z (gates place d low))
 
 -- behind the last input the first gate's turn comes
-pub Agree-first : (inputs : ℕ) (needs : List ℕ) (pin : ℕ) (drivers : List Driver) → InputsThere inputs drivers → Agree (by_driver (before_input (0 + inputs))) (by_driver (before_gate 0)) needs pin drivers
-Agree-first inputs needs pin [] there = tt
-Agree-first inputs needs pin (driver ∷ drivers) there = (by driver there.0, Agree-first inputs needs (pin + 1) drivers there.1)
+pub Agree-first : (inputs gates : ℕ) (needs : List ℕ) (pin : ℕ) (drivers : List Driver) → All (IsThere inputs gates) drivers → Agree (by_driver (before_input (0 + inputs))) (by_driver (before_gate 0)) needs pin drivers
+Agree-first inputs gates needs pin [] there = tt
+Agree-first inputs gates needs pin (driver ∷ drivers) there =
+    (by driver (All-head (IsThere inputs gates) driver drivers there), Agree-first inputs gates needs (pin + 1) drivers (All-tail (IsThere inputs gates) driver drivers there))
   where
-    by : (driver : Driver) → InputThere inputs driver → before_gate 0 driver ≡ before_input (0 + inputs) driver
+    by : (driver : Driver) → IsThere inputs gates driver → before_gate 0 driver ≡ before_input (0 + inputs) driver
     by (Input i) there = sym (lt-ltb i (0 + inputs) (omega arith))
     by (Gate k) there = le-ltb k 0 (omega arith)
 
@@ -209,12 +173,11 @@ Stands-layout chained timed =
     let first = wire_count wires in
     let start = made_inputs input_stage 0 wires in
     let stage = tap_stage chained in
-    let gates : AreGatesFrom inputs 0 rows = gates-from inputs 0 rows (λ place d low. let z : place ≡ 0 + place = omega arith in subst (λ g. IsGate inputs g (get_or rows place d)) z (timed.formed.gates place d low)) in
+    let gates : AreGatesFrom inputs 0 rows = gates-all inputs rows timed.formed.gates in
     let laid_inputs = Stands-inputs chained first start 0 0 inputs (empty_layout chained) timed.some_phase (inputs-found wires (flat_map option_to_list wires) (λ w h. h)) (Stands-empty chained) in
     let layout = with_inputs chained 0 wires (empty_layout chained) in
-    let there : InputsThere inputs all = InputsThere-append inputs (flat_map (λ (row : GateRow). row.pins) rows) outs (inputs-rows inputs 0 rows gates) (inputs-ends inputs (length rows) chained.gates.outputs timed.formed.outputs) in
     let begun : Stands n first start stage chained.needs 0 all (by_driver (before_gate 0)) (λ w. 0) layout =
-    Stands-agree n first start stage chained.needs 0 all (by_driver (before_input (0 + inputs))) (by_driver (before_gate 0)) (λ w. 0) layout (Agree-first inputs chained.needs 0 all there) laid_inputs in
+    Stands-agree n first start stage chained.needs 0 all (by_driver (before_input (0 + inputs))) (by_driver (before_gate 0)) (λ w. 0) layout (Agree-first inputs (length rows) chained.needs 0 all (pin_drivers-there chained.gates timed.formed)) laid_inputs in
     let done = Stands-gates chained first start [] outs 0 0 rows layout timed.some_phase refl refl gates (λ later low. tt)
     (λ k low high. tap_count-gate chained k (timed.used k (omega arith))) timed.gates begun in
     let p : 0 + gate_pins rows ≡ gate_pins rows = omega arith in
@@ -260,7 +223,7 @@ IsWired-layout chained names timed =
     let start = made_inputs input_stage 0 (inputs_of chained) in
     let made = makes-run chained names timed in
     let used = uses-balance chained names timed in
-    let gates : AreGatesFrom inputs 0 rows = gates-from inputs 0 rows (λ place d low. let z : place ≡ 0 + place = omega arith in subst (λ g. IsGate inputs g (get_or rows place d)) z (timed.formed.gates place d low)) in
+    let gates : AreGatesFrom inputs 0 rows = gates-all inputs rows timed.formed.gates in
     record {
       elements = end.laid.in_time;
       outputs = outlets-timed chained (after start layout.elements) (before_gate (length rows)) layout.taken (chained.n * chained.latency) (gate_pins rows) ends

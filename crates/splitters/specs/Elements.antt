@@ -7,6 +7,7 @@ use Rattle.gate_net.specs.declared.row.End.{End}
 use Rattle.gate_net.specs.declared.row.End.TheVariants.{Zero as False, One as True, From}
 use Rattle.gate_net.specs.declared.row.GateRow.{GateRow}
 use Rattle.gate_net.specs.Net.{pin_drivers}
+use Rattle.flow_net.specs.Uses.{uses_of, is_used}
 use Rattle.pulse_net.specs.declared.net.Element.{Element}
 use Rattle.pulse_net.specs.declared.net.Element.TheVariants.{Clocked}
 use Rattle.pulse_net.specs.declared.net.Outlet.{Outlet}
@@ -15,7 +16,7 @@ use Rattle.pulse_net.specs.declared.net.Names.{Names}
 use Rattle.pulse_net.specs.declared.net.PulseNet.{PulseNet}
 use Rattle.dro_chains.specs.declared.chain.Chained.{Chained}
 use Rattle.splitters.specs.Spread.{spread_lines, spread_wires}
-use Rattle.splitters.specs.Taps.{taps_of, is_used}
+use Rattle.splitters.specs.Taps.{taps_of}
 
 -- what is laid out so far: the next wire, the elements in order, and for each pin the wire that it takes, once it has one
 pub record Layout : Type 0 where
@@ -75,8 +76,8 @@ with_chain n stage wire (pins ∷ (more ∷ taps)) layout =
 abbrev pub input_wires : Chained → ℕ → ℕ → ℕ → List (Option ℕ)
 input_wires chained input next zero = []
 input_wires chained input next (suc more) =
-    cond (is_used chained (Input input)) (Some next) None
-    ∷ input_wires chained (input + 1) (next + cond (is_used chained (Input input)) 1 0) more
+    cond (is_used input (uses_of chained.gates)) (Some next) None
+    ∷ input_wires chained (input + 1) (next + cond (is_used input (uses_of chained.gates)) 1 0) more
 
 -- how many of these have a wire
 abbrev pub wire_count : List (Option ℕ) → ℕ

@@ -3,9 +3,10 @@ use Rattle.std.specs.Prelude.{◌≡◌, ◌≤◌, ℕ, ◌+◌, ◌*◌, List,
 use Rattle.gate_net.specs.declared.row.Driver.{Driver}
 use Rattle.gate_net.specs.declared.row.GateRow.{GateRow}
 use Rattle.gate_net.specs.Net.{pin_drivers, end_drivers, IsGateNet, EachGateIsUsed}
+use Rattle.gate_net.specs.Entries.{entry_of}
 use Rattle.pulse_net.specs.declared.net.Names.{Names}
 use Rattle.pulse_net.specs.declared.net.PulseNet.{PulseNet}
-use Rattle.pulse_net.specs.declared.net.TheConstants.{MAX_PHASES}
+use Rattle.phase_rule.specs.declared.level.TheConstants.{MAX_PHASES}
 use Rattle.pulse_net.specs.Wired.{IsInTime}
 use Rattle.pulse_net.specs.Validity.{IsValid}
 use Rattle.pulse_net.specs.Unfolding.{unfolded}
@@ -17,12 +18,12 @@ use Rattle.flow_net.specs.Epochs.{dro_count}
 use Rattle.dro_chains.specs.Chains.{HasChains, chained_of}
 use Rattle.dro_chains.specs.declared.chain.Chained.{Chained}
 use Rattle.dro_chains.specs.declared.chain.TheConstants.{MAX_DROS}
-use Rattle.splitters.specs.Taps.{driver_stage, chain_dros, CanSplit}
+use Rattle.splitters.specs.Taps.{chain_dros, CanSplit}
 use Rattle.splitters.specs.Elements.{gate_pins, elements_of}
 
 -- the stage of a tap: n stages for each DRO behind its driver
 abbrev pub tap_stage : Chained → Driver → ℕ → ℕ
-tap_stage chained driver need = driver_stage chained driver + chained.n * need
+tap_stage chained driver need = entry_of chained.stages driver + chained.n * need
 
 -- each of these pins, from a number on, takes from its tap 1 to n ticks before its user's stage
 abbrev pub PinsInTime : Chained → ℕ → ℕ → List Driver → Type 0

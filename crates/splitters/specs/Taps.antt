@@ -1,10 +1,10 @@
 -- The taps of a driver: itself and the DROs of its chain, each with the pins that take from it.
 use Rattle.std.specs.Prelude.{◌<◌, ◌^◌, ◌*◌, ◌+◌, ◌-◌, ◌&&◌, ◌==◌, ℕ, zero, suc, Bool, true, false, cond, max, List, [], ◌∷◌, length, slice_index, slice_index_or}
-use Rattle.std.specs.List.{list_any}
 use Rattle.gate_net.specs.declared.row.Driver.{Driver}
 use Rattle.gate_net.specs.declared.row.Driver.TheVariants.{Input, Gate}
 use Rattle.gate_net.specs.Rows.{same_driver}
 use Rattle.gate_net.specs.Net.{pin_drivers, IsGateNet}
+use Rattle.gate_net.specs.Entries.{entry_of}
 use Rattle.dro_chains.specs.declared.chain.Chained.{Chained}
 
 -- a pin in front of others, if it is one that is sought
@@ -37,20 +37,11 @@ taps_at needs drivers driver = taps_from needs drivers driver 0 (tap_count needs
 abbrev pub taps_of : Chained → Driver → List (List ℕ)
 taps_of chained driver = taps_at chained.needs (pin_drivers chained.gates) driver
 
--- a driver is used where it drives a pin
-abbrev pub is_used : Chained → Driver → Bool
-is_used chained driver = list_any (same_driver driver) (pin_drivers chained.gates)
-
--- the stage of a driver: 0 of an input, and a gate's own
-abbrev pub driver_stage : Chained → Driver → ℕ
-driver_stage chained (Input i) = 0
-driver_stage chained (Gate k) = slice_index chained.stages k
-
 -- the stage of what each pin takes from, a driver or a DRO of its chain, fits 32 bits
 abbrev pub StagesFit : Chained → Type 0
 StagesFit chained =
     (pin : ℕ) (d : Driver) → pin < length (pin_drivers chained.gates)
-    → driver_stage chained (slice_index_or (pin_drivers chained.gates) pin d) + chained.n * slice_index chained.needs pin < 2 ^ 32
+    → entry_of chained.stages (slice_index_or (pin_drivers chained.gates) pin d) + chained.n * slice_index chained.needs pin < 2 ^ 32
 
 -- so many inputs from one on have so many DROs in their chains, one for each tap behind the first
 abbrev pub input_dros : Chained → ℕ → ℕ → ℕ

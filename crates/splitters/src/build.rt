@@ -1,20 +1,20 @@
 //! The elements and wires of gates with shared chains.
 
 ghost use Rattle.std.specs.Prelude.{◌≡◌, ◌<◌, ◌+◌, ◌-◌, ◌^◌, ◌++◌, ◌∷◌, [], cond, IfOk, OnOk, length};
-ghost use Rattle.gate_net.specs.declared.row.Driver.TheVariants.{Input};
 ghost use Rattle.gate_net.specs.Net.{IsGateNet, pin_drivers};
 ghost use Rattle.pulse_net.specs.Validity.{IsValid};
-ghost use Rattle.splitters.specs.Taps.{CanSplit, StagesFit, is_used};
+ghost use Rattle.flow_net.specs.Uses.{is_used, uses_of};
+ghost use Rattle.splitters.specs.Taps.{CanSplit, StagesFit};
 ghost use Rattle.splitters.specs.Table.{IsTapped};
 ghost use Rattle.splitters.specs.Elements.{inputs_of, wire_count, gate_pins, outlets, layout_of, elements_of};
 ghost use Rattle.splitters.specs.Laws.{HasNames, KeepsTime, UnfoldsBack};
 
 use crate::drivers::{lay_gates, lay_inputs};
 use crate::layout::Layout;
-use crate::table::{gather, pin_drivers};
+use crate::table::gather;
 use crate::taps::Taps;
 use dro_chains::Chained;
-use gate_net::{Driver, End, GateRow};
+use gate_net::{Driver, End, GateRow, pin_drivers};
 use net_base::{List, NoMemory};
 use pulse_net::{Names, Outlet, PulseNet};
 use std::alloc::Global;
@@ -23,7 +23,7 @@ use std::alloc::Global;
 fn is_used(chained: &Chained, table: &[Taps], i: u32) -> bool
     requires tapped { IsTapped chained.now table.now }
     requires there { i < chained.now.gates.inputs }
-    ensures { result ≡ is_used chained.now (Input i) }
+    ensures { result ≡ is_used i (uses_of chained.now.gates) }
 {
     !table[i as usize].is_empty()
 }

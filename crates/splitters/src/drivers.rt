@@ -2,7 +2,8 @@
 
 ghost use Rattle.std.specs.Prelude.{◌≡◌, ◌<◌, ◌≤◌, ◌+◌, ◌*◌, ◌-◌, ◌^◌, IfOk, OnOk, length};
 ghost use Rattle.gate_net.specs.Net.{IsThere, pin_drivers};
-ghost use Rattle.splitters.specs.Taps.{driver_stage, taps_of};
+ghost use Rattle.gate_net.specs.Entries.{entry_of};
+ghost use Rattle.splitters.specs.Taps.{taps_of};
 ghost use Rattle.splitters.specs.Table.{IsTapped};
 ghost use Rattle.splitters.specs.Elements.{with_chain, with_gate, with_gates, with_inputs, gate_pins};
 
@@ -10,22 +11,9 @@ use crate::layout::Layout;
 use crate::table::slot;
 use crate::taps::Taps;
 use dro_chains::Chained;
-use gate_net::{Driver, GateRow};
+use gate_net::{Driver, GateRow, entry};
 use net_base::NoMemory;
 use std::alloc::Global;
-
-/// The stage of a driver: inputs have stage 0.
-pub(crate) fn stage(chained: &Chained, driver: Driver) -> u32
-    ensures { result ≡ driver_stage chained.now driver }
-{
-    match driver {
-        Driver::Input(_) => 0,
-        Driver::Gate(k) => {
-            let stages = chained.stages.as_slice();
-            stages.get(k as usize).copied().unwrap_or(0)
-        }
-    }
-}
 
 // The chain of a driver, from the driver's wire.
 fn lay_chain(
@@ -39,15 +27,15 @@ fn lay_chain(
     requires tapped { IsTapped chained.now table.now }
     requires there { IsThere chained.now.gates.inputs (length chained.now.gates.gates) driver }
     requires pins { length layout.old.taken ≡ length (pin_drivers chained.now.gates) }
-    requires room { (with_chain chained.now.n (driver_stage chained.now driver) wire (taps_of chained.now driver) layout.old).next + 2 < 2 ^ 32 }
-    ensures ok { OnOk result (layout.new ≡ with_chain chained.now.n (driver_stage chained.now driver) wire (taps_of chained.now driver) layout.old) }
+    requires room { (with_chain chained.now.n (entry_of chained.now.stages driver) wire (taps_of chained.now driver) layout.old).next + 2 < 2 ^ 32 }
+    ensures ok { OnOk result (layout.new ≡ with_chain chained.now.n (entry_of chained.now.stages driver) wire (taps_of chained.now driver) layout.old) }
     ensures pins { OnOk result (length layout.new.taken ≡ length layout.old.taken) }
 {
     let taps = &table[slot(chained.gates.inputs, driver)];
     layout.lay_chain(
         alloc,
         chained.n,
-        stage(chained, driver),
+        entry(chained.stages.as_slice(), driver),
         wire,
         taps.as_slice(),
     )
@@ -97,7 +85,7 @@ fn lay_gate(
 {
     let driver = Driver::Gate(gate);
     let pins = layout.wires(alloc, pin, row.pins.len())?;
-    let wire = layout.cell(row.cell, stage(chained, driver), pins)?;
+    let wire = layout.cell(row.cell, entry(chained.stages.as_slice(), driver), pins)?;
     lay_chain(alloc, layout, chained, table, driver, wire)
 }
 

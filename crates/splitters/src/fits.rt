@@ -5,10 +5,9 @@ ghost use Rattle.gate_net.specs.Net.{IsGateNet, IsThere, pin_drivers};
 ghost use Rattle.splitters.specs.Taps.{CanSplit, FewWires, StagesFit};
 ghost use Rattle.splitters.specs.Table.{HasLengths};
 
-use crate::drivers::stage;
-use crate::table::{need, pin_drivers, slot};
+use crate::table::{need, slot};
 use dro_chains::Chained;
-use gate_net::Driver;
+use gate_net::{Driver, entry, pin_drivers};
 use net_base::NoMemory;
 use std::alloc::Global;
 
@@ -29,7 +28,8 @@ fn stages_fit(chained: &Chained, drivers: &[Driver]) -> bool
 {
     for (pin, driver) in drivers.iter().enumerate() {
         let need = need(chained.needs.as_slice(), pin);
-        if !dro_fits(stage(chained, *driver), chained.n, need) {
+        let stage = entry(chained.stages.as_slice(), *driver);
+        if !dro_fits(stage, chained.n, need) {
             return false;
         }
     }

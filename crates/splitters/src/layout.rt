@@ -78,8 +78,7 @@ impl Layout {
         requires { pin + count ≤ length self.now.taken }
         ensures { IfOk result (λ wires. wires ≡ take count (drop pin self.now.taken)) }
     {
-        let wires = self.taken.as_slice()[pin..pin + count].to_vec(alloc)?;
-        Ok(List::from_vec(wires))
+        List::from_slice(alloc, &self.taken.as_slice()[pin..pin + count])
     }
 
     /// The wires of all pins, in the order of pins.
@@ -139,8 +138,8 @@ impl Layout {
     {
         let wires = self.spread(alloc, wire, pins.len() + 1)?;
         take_wires(&mut self.taken, pins, &wires.as_slice()[1..]);
-        let from = [wires[0]].to_vec(alloc)?;
-        self.cell(Cell::Dro, stage, List::from_vec(from))
+        let from = List::from_slice(alloc, &[wires[0]])?;
+        self.cell(Cell::Dro, stage, from)
     }
 
     /// The chain of a driver from its wire and stage, each DRO n stages behind the last.

@@ -1,6 +1,5 @@
-//! A large netlist is laid out, found valid, and unfolds to the gates that it was made of. Small ones are in `by_hand`.
-
-mod by_hand;
+//! A large netlist is laid out, found valid, and unfolds to the gates that it was made of. Small ones are evaluated in
+//! `proofs/Examples.antt`.
 
 ghost use Rattle.std.specs.Prelude.{◌≡◌, [], IfOk, length};
 ghost use Rattle.gate_net.specs.Net.{IsGateNet, IsThere};
@@ -34,9 +33,9 @@ fn ladder(alloc: Global) -> Result<(GateNet, Driver), NoMemory>
     let mut net = GateNet::new(alloc, 1);
     let mut last = input;
     for _ in 0..RUNGS {
-        let pins = List::from_vec([last].to_vec(alloc)?);
+        let pins = List::from_slice(alloc, &[last])?;
         let not = Driver::Gate(net.gate(Cell::Not, pins)?);
-        let pins = List::from_vec([input, not].to_vec(alloc)?);
+        let pins = List::from_slice(alloc, &[input, not])?;
         last = Driver::Gate(net.gate(Cell::And, pins)?);
     }
     Ok((net, last))
@@ -157,7 +156,7 @@ fn chains_whose_stages_or_wires_pass_32_bits_cannot_be_laid_out(
             stages: List::new(alloc),
             latency: 1,
             lengths: List::new(alloc),
-            needs: List::from_vec([need].to_vec(alloc)?),
+            needs: List::from_slice(alloc, &[need])?,
         };
         assert_eq!(rt; can_split(alloc, &chained)?, wanted, "{n} phases");
     }

@@ -1,7 +1,7 @@
 use Rattle.std.proofs.Common.{ℕ, List, All, sym, subst}
 use Rattle.gate_net.specs.declared.row.Driver.{Driver}
 use Rattle.gate_net.specs.Net.{IsThere, pin_drivers}
-use Rattle.splitters.proofs.PinLemmas.{pin_drivers-there}
+use Rattle.gate_net.proofs.CallerLemmas.{pin_drivers-there}
 use Rattle.splitters.proofs.build.tap_table.Goals as goal
 
 pub gather-requires-clause-there : goal.gather-requires-clause-there

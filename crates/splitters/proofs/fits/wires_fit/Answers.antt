@@ -3,7 +3,7 @@ use Rattle.gate_net.specs.declared.row.Driver.{Driver}
 use Rattle.gate_net.specs.Net.{IsThere, pin_drivers}
 use Rattle.splitters.specs.Taps.{chain_dros}
 use Rattle.splitters.specs.Table.{HasLengths}
-use Rattle.splitters.proofs.PinLemmas.{pin_drivers-there}
+use Rattle.gate_net.proofs.CallerLemmas.{pin_drivers-there}
 use Rattle.splitters.proofs.ChainSums.{lengths-sum}
 use Rattle.splitters.proofs.fits.wires_fit.Goals as goal
 
