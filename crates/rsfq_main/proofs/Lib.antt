@@ -6,7 +6,6 @@ pub mod PlainTextTables
 pub mod PlainTexts
 pub mod CircuitNames
 pub mod PhaseWords
-pub mod MappingNames
 pub mod MappingRows
 pub mod MappingSteps
 pub mod MappingPlain

@@ -2,7 +2,6 @@
 use Rattle.std.proofs.Common.{◌≡◌, ℕ, List, [], ◌∷◌, ◌++◌, length, map, sym, ap, subst, ◌∙◌}
 use Rattle.std.specs.Str.{bytes_eq}
 use Rattle.std.specs.Prelude.{All}
-use Rattle.std.proofs.lemmas.List.Elements.{All-from_recursion}
 use Rattle.indexmap.specs.IndexMap.{IndexMap, insert_entry}
 use Rattle.indexmap.proofs.CallerLemmas.{insert_entry-new}
 use Rattle.cell_lib.specs.declared.cell.Cell.{Cell}
@@ -16,7 +15,8 @@ use Rattle.std.specs.Map.{keys_of}
 use Rattle.rsfq_main.specs.declared.design.Design.{Design}
 use Rattle.rsfq_main.specs.declared.design.Table.{Table}
 use Rattle.rsfq_main.specs.PlainRules.{Names, IsPlain, are_new}
-use Rattle.rsfq_main.specs.Mapping.{Mapping, Drivers, driver_named, ascending, cell_of, gate_of, with_table, input_drivers, inputs_alone, mapping_of, with_outputs, gates_of, IsMapped}
+use Rattle.rsfq_main.specs.Mapping.{Mapping, Drivers, driver_named, cell_of, gate_of, with_table, input_drivers, inputs_alone, mapping_of, with_outputs, gates_of, IsMapped}
+use Rattle.gate_net.specs.Order.{ascending}
 use Rattle.rsfq_main.specs.MappingSteps.{IsNew, IsDriven, TakesInputs, TakesTable, TakesTables, with_driver}
 use Rattle.rsfq_main.proofs.MappingRows.{gate_of-gate}
 use Rattle.rsfq_main.proofs.MappingPlain.{keeps_rules, takes-inputs, plain-takes, plain-sound}
@@ -77,7 +77,7 @@ answer-formed design plain so mapped = subst (λ (m : Mapping). IsGateNet m.net)
 pub answer-driven : (design : Design) → IsPlain design → (so : Mapping) (outputs : Names) → so ≡ mapping_of design → outputs ≡ design.outputs → All (IsDriven so) outputs
 answer-driven design plain so outputs mapped same =
     subst (λ (names : Names). All (IsDriven so) names) (sym same)
-    (subst (λ (m : Mapping). All (IsDriven m) design.outputs) (sym mapped) (All-from_recursion (IsDriven (mapping_of design)) design.outputs (outputs-driven design plain)))
+    (subst (λ (m : Mapping). All (IsDriven m) design.outputs) (sym mapped) (outputs-driven design plain))
 
 pub answer-none : (design : Design) (so : Mapping) → so ≡ mapping_of design → so.net.outputs ≡ []
 answer-none design so mapped = ap (λ (m : Mapping). m.net.outputs) mapped ∙ same-outputs design.tables (inputs_alone design)

@@ -1,5 +1,5 @@
 -- Small designs by hand, with their gates and values by evaluation: a false definition fails here.
-use Rattle.std.proofs.Common.{◌≡◌, true, false, List, [], ◌∷◌, ℕ, codes, refl}
+use Rattle.std.proofs.Common.{◌≡◌, true, false, List, [], ◌∷◌, codes, refl}
 use Rattle.cell_lib.specs.declared.cell.Cell.{Cell}
 use Rattle.cell_lib.specs.declared.cell.Cell.TheVariants.{Not, And}
 use Rattle.gate_net.specs.declared.row.Driver.{Driver}
@@ -7,25 +7,13 @@ use Rattle.gate_net.specs.declared.row.Driver.TheVariants.{Input, Gate}
 use Rattle.gate_net.specs.declared.row.End.TheVariants.{From}
 use Rattle.gate_net.specs.declared.row.GateRow.{GateRow}
 use Rattle.rsfq_main.specs.declared.design.Design.{Design}
-use Rattle.rsfq_main.specs.declared.design.Table.{Table}
 use Rattle.rsfq_main.specs.PlainRules.{is_circuit}
 use Rattle.rsfq_main.specs.DesignValues.{output_value}
 use Rattle.rsfq_main.specs.Mapping.{gates_of}
-use Rattle.rsfq_main.proofs.Examples.{two_tables}
+use Rattle.rsfq_main.proofs.Examples.{not_of, and_of, design_of, two_tables}
 
 abbrev gate : Cell → List Driver → GateRow
 gate cell pins = record { cell = cell; pins = pins }
-
--- a table that negates its pin, and one that is the AND of its two
-abbrev not_of : List ℕ → List ℕ → Table
-not_of pin target = record { row = false ∷ []; pins = pin ∷ []; target = target }
-
-abbrev and_of : List ℕ → List ℕ → List ℕ → Table
-and_of first second target = record { row = true ∷ true ∷ []; pins = first ∷ second ∷ []; target = target }
-
-two_tables-is_circuit : is_circuit two_tables ≡ true
-unfolding is_circuit
-two_tables-is_circuit = refl
 
 gates_of-two_tables : gates_of two_tables ≡ record { inputs = 2; gates = gate Not (Input 1 ∷ []) ∷ gate And (Input 0 ∷ Gate 0 ∷ []) ∷ []; outputs = From (Gate 1) ∷ [] }
 gates_of-two_tables = refl
@@ -44,14 +32,10 @@ both = refl
 
 -- g and h are the same table, with its pins in descending order once; so are the two inverters
 abbrev equal_tables : Design
-equal_tables = record {
-  model = codes "t";
-  inputs = codes "a" ∷ codes "b" ∷ [];
-  outputs = codes "f" ∷ codes "a" ∷ [];
-  tables =
-      not_of (codes "b") (codes "c") ∷ not_of (codes "b") (codes "d") ∷ and_of (codes "c") (codes "a") (codes "g")
-      ∷ and_of (codes "a") (codes "d") (codes "h") ∷ and_of (codes "h") (codes "g") (codes "f") ∷ [];
-}
+equal_tables =
+    design_of (codes "a" ∷ codes "b" ∷ []) (codes "f" ∷ codes "a" ∷ [])
+    (not_of (codes "b") (codes "c") ∷ not_of (codes "b") (codes "d") ∷ and_of (codes "c") (codes "a") (codes "g")
+    ∷ and_of (codes "a") (codes "d") (codes "h") ∷ and_of (codes "h") (codes "g") (codes "f") ∷ [])
 
 equal_tables-is_circuit : is_circuit equal_tables ≡ true
 unfolding is_circuit
@@ -66,12 +50,9 @@ gates_of-equal_tables = refl
 
 -- pins in descending order are turned: an input comes before a gate, and a first input before a second
 abbrev descending : Design
-descending = record {
-  model = codes "t";
-  inputs = codes "a" ∷ codes "b" ∷ [];
-  outputs = codes "f" ∷ [];
-  tables = and_of (codes "b") (codes "a") (codes "c") ∷ and_of (codes "c") (codes "a") (codes "f") ∷ [];
-}
+descending =
+    design_of (codes "a" ∷ codes "b" ∷ []) (codes "f" ∷ [])
+    (and_of (codes "b") (codes "a") (codes "c") ∷ and_of (codes "c") (codes "a") (codes "f") ∷ [])
 
 gates_of-descending : gates_of descending ≡ record { inputs = 2; gates = gate And (Input 0 ∷ Input 1 ∷ []) ∷ gate And (Input 0 ∷ Gate 0 ∷ []) ∷ []; outputs = From (Gate 1) ∷ [] }
 gates_of-descending = refl

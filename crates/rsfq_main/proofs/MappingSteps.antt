@@ -1,51 +1,56 @@
 -- The tables of a plain design may be added in order, and what the mapping keeps to meanwhile.
 use Rattle.std.proofs.Common.{◌≡◌, ◌<◌, ◌≤◌, ◌+◌, ◌^◌, ℕ, true, false, not, List, [], ◌∷◌, ◌++◌, length, map, refl, sym, ap, subst, ◌∙◌, arith, append_assoc, length-append}
-use Rattle.std.specs.List.{AllByRecursion, list_all}
+use Rattle.std.specs.Prelude.{All}
+use Rattle.std.specs.List.{list_all}
 use Rattle.std.specs.Map.{keys_of}
 use Rattle.std.specs.Str.{bytes_eq}
 use Rattle.std.proofs.lemmas.List.{append-nil, map-append}
-use Rattle.std.proofs.lemmas.List.Elements.{All-from_recursion}
+use Rattle.std.proofs.lemmas.List.Elements.{All-head, All-tail, All-push, All-weaker, recursion_from_All}
+use Rattle.std.proofs.lemmas.List.Sums.{AllPass-from_list_all}
 use Rattle.std.proofs.lemmas.Bool.{and_parts, not-true}
+use Rattle.net_base.proofs.CallerLemmas.{lookup-absent, lookup-all}
 use Rattle.gate_net.specs.declared.row.Driver.{Driver}
 use Rattle.gate_net.specs.declared.row.Driver.TheVariants.{Input, Gate}
 use Rattle.gate_net.specs.declared.row.GateRow.{GateRow}
 use Rattle.gate_net.specs.Rows.{gate_place}
 use Rattle.gate_net.specs.Net.{IsThere, IsGateNet}
-use Rattle.gate_net.proofs.NetLemmas.{IsThere-more}
+use Rattle.gate_net.proofs.CallerLemmas.{IsThere-more, added, with_row-added, gate_place-within, length-with_row, with_gate-formed}
 use Rattle.rsfq_main.specs.declared.design.Table.{Table}
-use Rattle.rsfq_main.specs.PlainRules.{Names, is_among, is_table, are_tables, HasShape}
+use Rattle.net_base.specs.Keys.{is_among}
+use Rattle.rsfq_main.specs.PlainRules.{Names, is_table, are_tables, HasShape}
 use Rattle.rsfq_main.specs.Mapping.{Mapping, Drivers, gate_of, with_table, with_tables}
 use Rattle.rsfq_main.specs.MappingSteps.{IsNew, IsDriven, TakesTable, TakesTables}
-use Rattle.rsfq_main.proofs.MappingNames.{lookup-absent, lookup-all, all-from_test, all-append, all-weaker}
-use Rattle.rsfq_main.proofs.MappingRows.{gate_of-gate, added, with_row-added, gate_place-within, length-with_row, with_gate-formed}
+use Rattle.rsfq_main.proofs.MappingRows.{gate_of-gate}
 
 -- The signals that have drivers are these, and each driver is in the netlist, which is well formed.
 pub record IsSound (names : Names) (so : Mapping) : Type 0 where
   pub formed : IsGateNet so.net
   pub named : keys_of so.drivers ≡ names
-  pub there : AllByRecursion (λ (entry : List ℕ × Driver). IsThere so.net.inputs (length so.net.gates) entry.1) so.drivers
+  pub there : All (λ (entry : List ℕ × Driver). IsThere so.net.inputs (length so.net.gates) entry.1) so.drivers
 
 module _ (names : Names) (so : Mapping) (sound : IsSound names so) where
-  among : (name : List ℕ) → is_among name (keys_of so.drivers) ≡ is_among name names
-  among name = ap (is_among name) sound.named
+  among : (name : List ℕ) → is_among bytes_eq name (keys_of so.drivers) ≡ is_among bytes_eq name names
+  among name = ap (is_among bytes_eq name) sound.named
 
   -- so a signal among them is driven,
-  pub sound-driven : (name : List ℕ) → is_among name names ≡ true → IsDriven so name
-  sound-driven name e = lookup-all (bytes_eq name) (IsThere so.net.inputs (length so.net.gates)) (Input 0) so.drivers sound.there (among name ∙ e)
+  pub sound-driven : (name : List ℕ) → is_among bytes_eq name names ≡ true → IsDriven so name
+  sound-driven name e =
+      lookup-all (bytes_eq name) (IsThere so.net.inputs (length so.net.gates)) (Input 0) so.drivers
+      (recursion_from_All (λ (entry : List ℕ × Driver). IsThere so.net.inputs (length so.net.gates) entry.1) so.drivers sound.there) (among name ∙ e)
 
   -- and any other is new.
-  pub sound-new : (name : List ℕ) → is_among name names ≡ false → IsNew so name
+  sound-new : (name : List ℕ) → is_among bytes_eq name names ≡ false → IsNew so name
   sound-new name e = lookup-absent (bytes_eq name) so.drivers (among name ∙ e)
 
   -- So a table's gate may be added,
-  pub sound-takes : (table : Table) → is_table names table ≡ true → HasShape table → length so.net.gates + 1 < 2 ^ 31 → TakesTable so table
+  sound-takes : (table : Table) → is_table names table ≡ true → HasShape table → length so.net.gates + 1 < 2 ^ 31 → TakesTable so table
   sound-takes table e shape room =
-      let parts = and_parts (list_all (λ pin. is_among pin names) table.pins) (not (is_among table.target names)) e in
+      let parts = and_parts (list_all (λ pin. is_among bytes_eq pin names) table.pins) (not (is_among bytes_eq table.target names)) e in
       record {
         formed = sound.formed;
         shape = shape;
-        pins = All-from_recursion (IsDriven so) table.pins (all-from_test (IsDriven so) (λ pin. is_among pin names) sound-driven table.pins parts.0);
-        target = sound-new table.target (not-true (is_among table.target names) parts.1);
+        pins = All-weaker (λ pin. is_among bytes_eq pin names ≡ true) (IsDriven so) sound-driven table.pins (AllPass-from_list_all (λ pin. is_among bytes_eq pin names) table.pins parts.0);
+        target = sound-new table.target (not-true (is_among bytes_eq table.target names) parts.1);
         room = room;
       }
 
@@ -59,20 +64,20 @@ module _ (names : Names) (so : Mapping) (sound : IsSound names so) where
         formed = with_gate-formed so.net row sound.formed (gate_of-gate so table takes) takes.room;
         named = map-append (λ (entry : List ℕ × Driver). entry.0) so.drivers ((table.target, Gate (gate_place row so.net.gates)) ∷ []) ∙ ap (λ keys. keys ++ table.target ∷ []) sound.named;
         there =
-            all-append (λ (entry : List ℕ × Driver). IsThere so.net.inputs (length next.net.gates) entry.1) so.drivers ((table.target, Gate (gate_place row so.net.gates)) ∷ [])
-            (all-weaker (λ (entry : List ℕ × Driver). IsThere so.net.inputs (length so.net.gates) entry.1) (λ (entry : List ℕ × Driver). IsThere so.net.inputs (length next.net.gates) entry.1)
+            All-push (λ (entry : List ℕ × Driver). IsThere so.net.inputs (length next.net.gates) entry.1) so.drivers (table.target, Gate (gate_place row so.net.gates))
+            (All-weaker (λ (entry : List ℕ × Driver). IsThere so.net.inputs (length so.net.gates) entry.1) (λ (entry : List ℕ × Driver). IsThere so.net.inputs (length next.net.gates) entry.1)
             (λ entry there. IsThere-more so.net.inputs (length so.net.gates) (length next.net.gates) longer entry.1 there) so.drivers sound.there)
-            (gate_place-within row so.net.gates, tt);
+            (gate_place-within row so.net.gates);
       }
 
 -- Each table of a circuit may be added behind those before it,
-pub takes-tables : (names : Names) (tables : List Table) (so : Mapping) → IsSound names so → are_tables names tables ≡ true → AllByRecursion HasShape tables → length so.net.gates + length tables < 2 ^ 31 → TakesTables so tables
+pub takes-tables : (names : Names) (tables : List Table) (so : Mapping) → IsSound names so → are_tables names tables ≡ true → All HasShape tables → length so.net.gates + length tables < 2 ^ 31 → TakesTables so tables
 takes-tables names [] so sound e shapes room = tt
 takes-tables names (table ∷ tables) so sound e shapes room =
     let parts = and_parts (is_table names table) (are_tables (names ++ table.target ∷ []) tables) e in
-    let takes = sound-takes names so sound table parts.0 shapes.0 (omega (arith, room)) in
+    let takes = sound-takes names so sound table parts.0 (All-head HasShape table tables shapes) (omega (arith, room)) in
     let longer = length-with_row (gate_of so.drivers table) so.net.gates in
-    (takes, takes-tables (names ++ table.target ∷ []) tables (with_table table so) (sound-table names so sound table takes) parts.1 shapes.1 (omega (arith, room, longer)))
+    (takes, takes-tables (names ++ table.target ∷ []) tables (with_table table so) (sound-table names so sound table takes) parts.1 (All-tail HasShape table tables shapes) (omega (arith, room, longer)))
 
 -- and the mapping keeps to what it does, with the targets behind the names.
 pub sound-tables : (names : Names) (tables : List Table) (so : Mapping) → IsSound names so → TakesTables so tables → IsSound (names ++ map (λ table. table.target) tables) (with_tables tables so)

@@ -1,7 +1,8 @@
 -- What the netlist of a design means, put together from the laws of the layers.
 use Rattle.std.proofs.Common.{◌≡◌, ℕ, List, refl, sym, ap, subst, ◌∙◌}
-use Rattle.std.specs.Prelude.{Result, Ok, Err, IfOk, slice_index_or}
+use Rattle.std.specs.Prelude.{Result, IfOk, slice_index_or}
 use Rattle.std.proofs.lemmas.List.{length-map}
+use Rattle.std.proofs.lemmas.Result.{IfOk-weaker}
 use Rattle.gate_net.specs.declared.row.End.TheVariants.{Zero, From}
 use Rattle.gate_net.specs.declared.net.GateNet.{GateNet}
 use Rattle.gate_net.specs.Values.{end_value}
@@ -56,11 +57,10 @@ netlist_means keep are_valid unfolds pulse n design plain has =
 pub answer-value : {E : Type 0} (r : Result PulseNet E) (n : ℕ) (design : Design) (gates : GateNet) (chained : Chained) → gates ≡ gates_of design → chained ≡ clocked n gates →
     IfOk r (λ net. net ≡ elements_of chained (names_of design)) → IfOk r (λ net. net ≡ netlist_of n design)
 unfolding netlist_of
-answer-value (Err e) n design gates chained of_design clocks h = tt
-answer-value (Ok net) n design gates chained of_design clocks h =
-    h ∙ ap (λ (c : Chained). elements_of c (names_of design)) (clocks ∙ ap (clocked n) of_design)
+answer-value r n design gates chained of_design clocks =
+    IfOk-weaker r (λ net. net ≡ elements_of chained (names_of design)) (λ net. net ≡ netlist_of n design)
+    (λ net made. made ∙ ap (λ (c : Chained). elements_of c (names_of design)) (clocks ∙ ap (clocked n) of_design))
 
 -- and it means the design
 pub answer-means : {E : Type 0} (r : Result PulseNet E) (n : ℕ) (design : Design) → Means n design (netlist_of n design) → IfOk r (λ net. net ≡ netlist_of n design) → IfOk r (λ net. Means n design net)
-answer-means (Err e) n design means h = tt
-answer-means (Ok net) n design means h = subst (λ (p : PulseNet). Means n design p) (sym h) means
+answer-means r n design means = IfOk-weaker r (λ net. net ≡ netlist_of n design) (Means n design) (λ net made. subst (Means n design) (sym made) means)

@@ -4,7 +4,7 @@ use Rattle.std.proofs.lemmas.Bool.{cases_lt, false≢true}
 use Rattle.std.proofs.lemmas.Fmt.{decimal_injective}
 use Rattle.std.proofs.lemmas.List.{append_cancel_left}
 use Rattle.std.proofs.lemmas.Slice.Eq.{bytes_eq-Decides}
-use Rattle.pulse_net.specs.declared.net.TheConstants.{MAX_PHASES}
+use Rattle.phase_rule.specs.declared.level.TheConstants.{MAX_PHASES}
 use Rattle.rsfq_main.specs.Words.{phases_in, GivesPhases}
 
 -- the word gives the largest number that is left

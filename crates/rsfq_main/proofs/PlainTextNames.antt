@@ -1,18 +1,19 @@
 -- The names of a plain text: a reader answers names and a rest exactly where the text is the names' spelling before the rest.
-use Rattle.std.proofs.Common.{◌≡◌, ◌≤◌, ◌<◌, nat_le, ℕ, zero, suc, Bool, true, false, List, [], ◌∷◌, ◌++◌, length, take, drop, Option, Some, None, IfSome, All, codes, bytes_eq, refl, sym, ap, ◌∙◌, append_assoc, arith, if◌then◌else◌}
+use Rattle.std.proofs.Common.{◌≡◌, ◌≤◌, nat_le, ℕ, zero, suc, Bool, true, false, List, [], ◌∷◌, ◌++◌, length, take, drop, Option, Some, None, IfSome, All, codes, bytes_eq, eqb, refl, sym, ap, ◌∙◌, append_assoc, arith, if◌then◌else◌}
 use Rattle.std.specs.List.{prefix_len, AllPass}
 use Rattle.std.proofs.lemmas.Slice.Eq.{bytes_eq-Decides}
-use Rattle.std.proofs.lemmas.Bool.Decides.{nat_tests}
-use Rattle.std.proofs.lemmas.List.{take-append-drop, get_or-take}
+use Rattle.std.proofs.lemmas.Bool.Decides.{nat_tests, Decides-eqb}
+use Rattle.std.proofs.lemmas.List.{take-append-drop}
 use Rattle.std.proofs.lemmas.List.Elements.{All-nil, All-cons, All-head, All-tail}
-use Rattle.std.proofs.lemmas.List.Sums.{prefix_len_passes}
-use Rattle.std.proofs.lemmas.List.Folds.{length-prefix_len}
+use Rattle.std.proofs.lemmas.List.Sums.{prefix_len_is}
+use Rattle.std.proofs.lemmas.List.Folds.{length-prefix_len, prefix_len-append}
 use Rattle.std.proofs.Math.Seq.{take-append_seam, drop-append_seam}
 use Rattle.net_base.specs.declared.name.TheConstants.{MAX_NAME_BYTES}
 use Rattle.rsfq_main.specs.declared.plain.TheConstants.{MAX_PLAIN_NAMES}
 use Rattle.rsfq_main.specs.PlainRules.{◌>>=◌}
 use Rattle.rsfq_main.specs.PlainForm.{after, is_plain_byte, name_at, names_at, ended_at, with_name, name_line_at, model_line_at}
 use Rattle.rsfq_main.specs.PlainText.{words_of, line_of, IsPlainName, ArePlainNames}
+use Rattle.rsfq_main.proofs.PlainNames.{IsPlainName-front}
 
 -- what is read by steps: each step adds what it knows of the text before it
 module _ {A B : Type 0} (P : B → Type 0) where
@@ -36,7 +37,7 @@ after_is front text =
     tested_by (λ rest. text ≡ front ++ rest) (bytes_eq (take (length front) text) front) (drop (length front) text)
     (λ same. sym (take-append-drop (length front) text) ∙ ap (λ begin. begin ++ drop (length front) text) ((bytes_eq-Decides _ _).0 same))
 
-pub after_front : (front rest : List ℕ) → after front (front ++ rest) ≡ Some rest
+after_front : (front rest : List ℕ) → after front (front ++ rest) ≡ Some rest
 after_front front rest =
     let same : bytes_eq (take (length front) (front ++ rest)) front ≡ true = (bytes_eq-Decides _ _).1 (take-append_seam front rest) in
     rw (same, drop-append_seam front rest) refl
@@ -54,13 +55,10 @@ name_at_is text =
     tested_by (BeginsWithName text) _ (take n text, drop (length (take n text)) text)
     (λ passes. record {
       spelling = rw long (sym (take-append-drop n text));
-      name = record {
-        some = grind (arith, nat_tests);
-        short = grind (arith, nat_tests);
-        plain = λ k d below.
-            let within : k < n = omega (arith, long) in
-            rw (get_or-take n text k d within) (prefix_len_passes is_plain_byte text k d within);
-      };
+      name =
+          let some : 1 ≤ length (take n text) = grind (arith, nat_tests) in
+          let short : length (take n text) ≤ MAX_NAME_BYTES = grind (arith, nat_tests) in
+          IsPlainName-front text n refl (omega (arith, long)) (omega (arith, long));
     })
 
 -- a text that goes on with no byte of a name
@@ -68,11 +66,10 @@ abbrev pub IsOther : List ℕ → Type 0
 IsOther text = prefix_len is_plain_byte text ≡ 0
 
 prefix_len-name : (name rest : List ℕ) → AllPass is_plain_byte name → IsOther rest → prefix_len is_plain_byte (name ++ rest) ≡ length name
-prefix_len-name [] rest plain other = other
-prefix_len-name (b ∷ name) rest plain other =
-    let first : is_plain_byte b ≡ true = All-head (λ b. is_plain_byte b ≡ true) b name plain in
-    let others = prefix_len-name name rest (All-tail (λ b. is_plain_byte b ≡ true) b name plain) other in
-    rw (first, others) (omega arith)
+prefix_len-name name rest plain other =
+    let whole : prefix_len is_plain_byte name ≡ length name = prefix_len_is is_plain_byte name (length name) 0 (omega arith) (λ k below. plain k 0 below) (λ past. absurd (omega arith)) in
+    let all : eqb (length name) (length name) ≡ true = (Decides-eqb (length name) (length name)).1 refl in
+    rw (prefix_len-append is_plain_byte name rest, whole, other, all) (omega arith)
 
 pub name_at_name : (name rest : List ℕ) → IsPlainName name → IsOther rest → name_at (name ++ rest) ≡ Some (name, rest)
 unfolding name_at
@@ -96,7 +93,7 @@ ended_at_is most text =
 pub words_of-cons : (text name next rest : List ℕ) (names : List (List ℕ)) → text ≡ codes " " ++ (name ++ next) → next ≡ words_of names ++ rest → text ≡ words_of (name ∷ names) ++ rest
 words_of-cons text name next rest names begins goes = begins ∙ ap (λ t. codes " " ++ t) (ap (λ t. name ++ t) goes ∙ sym (append_assoc name (words_of names) rest))
 
-pub names_at_is : (most : ℕ) (text : List ℕ) → IfSome (names_at most text) (BeginsWithNames most text)
+names_at_is : (most : ℕ) (text : List ℕ) → IfSome (names_at most text) (BeginsWithNames most text)
 unfolding names_at
 names_at_is zero text = ended_at_is zero text
 names_at_is (suc most) text =
@@ -114,7 +111,7 @@ words_of-other : (names : List (List ℕ)) (rest : List ℕ) → IsOther rest �
 words_of-other [] rest other = other
 words_of-other (name ∷ names) rest other = refl
 
-pub names_at_words : (most : ℕ) (names : List (List ℕ)) (rest : List ℕ) → length names ≤ most → All IsPlainName names → names_at most (words_of names ++ (codes "\n" ++ rest)) ≡ Some (names, rest)
+names_at_words : (most : ℕ) (names : List (List ℕ)) (rest : List ℕ) → length names ≤ most → All IsPlainName names → names_at most (words_of names ++ (codes "\n" ++ rest)) ≡ Some (names, rest)
 unfolding names_at
 names_at_words zero [] rest few plain = refl
 names_at_words zero (name ∷ names) rest few plain = absurd (omega arith)

@@ -1,6 +1,7 @@
 -- The tables of a plain text: what is read is the tables' spelling before the end line, and the other way round.
-use Rattle.std.proofs.Common.{◌≡◌, ◌≤◌, ◌⊎◌, inl, inr, ℕ, zero, suc, Bool, true, false, List, [], ◌∷◌, ◌++◌, length, Option, Some, None, IfSome, All, flat_map, codes, bytes_eq, refl, sym, ap, ◌∙◌, append_assoc, arith}
+use Rattle.std.proofs.Common.{◌≡◌, ◌≤◌, ◌⊎◌, inl, inr, ℕ, zero, suc, Bool, true, false, List, [], ◌∷◌, ◌++◌, length, Some, IfSome, All, flat_map, codes, bytes_eq, refl, sym, ap, ◌∙◌, append_assoc, arith}
 use Rattle.std.proofs.lemmas.Slice.Eq.{bytes_eq-Decides}
+use Rattle.std.proofs.lemmas.Option.{IfSome_then}
 use Rattle.std.proofs.lemmas.List.Elements.{All-nil, All-cons, All-head, All-tail}
 use Rattle.rsfq_main.specs.declared.design.Table.{Table}
 use Rattle.rsfq_main.specs.PlainRules.{HasShape}
@@ -17,12 +18,8 @@ further_name_at_is : (text : List ℕ) → IfSome (further_name_at text) (Begins
 unfolding further_name_at
 further_name_at_is text =
     then_by (BeginsWithWord text) (after (codes " ") text) _ (after_is (codes " ") text)
-    (λ behind space. then_known (name_at behind) (name_at_is behind)
+    (λ behind space. IfSome_then (name_at behind) (name_at_is behind)
     (λ name begins. record { spelling = space ∙ ap (λ t. codes " " ++ t) begins.spelling; name = begins.name }))
-  where
-    then_known : {A : Type 0} {Q P : A → Type 0} (read : Option A) → IfSome read Q → ((a : A) → Q a → P a) → IfSome read P
-    then_known None known each = tt
-    then_known (Some a) known each = each a known
 
 further_name_at_word : (name rest : List ℕ) → IsPlainName name → IsOther rest → further_name_at (codes " " ++ (name ++ rest)) ≡ Some (name, rest)
 unfolding further_name_at

@@ -1,6 +1,7 @@
 -- One turn of the loops that write the lines of inputs and outputs, and their end.
-use Rattle.std.proofs.Common.{◌≡◌, ℕ, suc, ◌+◌, ◌≤◌, ◌<◌, List, [], ◌∷◌, ◌++◌, length, drop, min, Option, Some, codes, refl, ap, ◌∙◌, arith, add-one, drop-cons, length-drop}
+use Rattle.std.proofs.Common.{◌≡◌, ℕ, ◌+◌, ◌≤◌, List, [], ◌∷◌, ◌++◌, length, drop, min, Option, Some, codes, refl, ap, ◌∙◌, arith, length-drop}
 use Rattle.std.specs.List.{slice_get}
+use Rattle.std.proofs.lemmas.List.{drop_more}
 use Rattle.std.proofs.lemmas.Option.{slice_get_within, get_or_from_slice_get}
 use Rattle.pulse_net.specs.declared.net.Outlet.{Outlet}
 use Rattle.rsfq_main.specs.Spelling.{name_line, wire_word, outlet_word, input_lines, output_lines}
@@ -8,8 +9,7 @@ use Rattle.rsfq_main.specs.Spelling.{name_line, wire_word, outlet_word, input_li
 -- from the item at a place on
 drop-at : {X : Type 0} (xs : List X) (i : ℕ) (x : X) → slice_get xs i ≡ Some x → drop i xs ≡ x ∷ drop (i + 1) xs
 drop-at xs i x at =
-    let within : i < length xs = slice_get_within xs i x at in
-    rw add-one (drop-cons xs i x within ∙ ap (λ y. y ∷ drop (suc i) xs) (get_or_from_slice_get xs i x x at))
+    drop_more xs i x (slice_get_within xs i x at) ∙ ap (λ y. y ∷ drop (i + 1) xs) (get_or_from_slice_get xs i x x at)
 
 pub input_lines-step : (names : List (List ℕ)) (wires : List (Option ℕ)) (i : ℕ) (name : List ℕ) (wire : Option ℕ) → slice_get names i ≡ Some name → slice_get wires i ≡ Some wire → input_lines (drop i names) (drop i wires) ≡ name_line (codes "input") name (wire_word wire) ++ input_lines (drop (i + 1) names) (drop (i + 1) wires)
 unfolding input_lines

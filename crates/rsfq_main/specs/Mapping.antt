@@ -1,5 +1,5 @@
 -- The gates of a design: each table is one gate, and equal gates are one.
-use Rattle.std.specs.Prelude.{ℕ, ◌+◌, ◌≤◌, Bool, true, false, nat_lt, cond, List, [], ◌∷◌, ◌++◌, length, map, unwrap_or}
+use Rattle.std.specs.Prelude.{ℕ, ◌+◌, ◌≤◌, Bool, false, List, [], ◌∷◌, ◌++◌, length, map, unwrap_or}
 use Rattle.std.specs.Map.{lookup}
 use Rattle.std.specs.Str.{bytes_eq}
 use Rattle.cell_lib.specs.declared.cell.Cell.{Cell}
@@ -10,6 +10,7 @@ use Rattle.gate_net.specs.declared.row.End.TheVariants.{From}
 use Rattle.gate_net.specs.declared.row.GateRow.{GateRow}
 use Rattle.gate_net.specs.declared.net.GateNet.{GateNet}
 use Rattle.gate_net.specs.Rows.{gate_place}
+use Rattle.gate_net.specs.Order.{ascending}
 use Rattle.gate_net.specs.Net.{IsGateNet, EachGateIsUsed, bare_net, with_gate}
 use Rattle.rsfq_main.specs.declared.design.Design.{Design}
 use Rattle.rsfq_main.specs.declared.design.Table.{Table}
@@ -27,20 +28,6 @@ driver_named drivers name = unwrap_or (lookup (bytes_eq name) drivers) (Input 0)
 abbrev pub input_drivers : ℕ → List (List ℕ) → Drivers
 input_drivers place [] = []
 input_drivers place (name ∷ names) = (name, Input place) ∷ input_drivers (place + 1) names
-
--- a driver comes before another: inputs before gates, each in order
-abbrev pub is_before : Driver → Driver → Bool
-is_before (Input i) (Input j) = nat_lt i j
-is_before (Input i) (Gate k) = true
-is_before (Gate k) (Input i) = false
-is_before (Gate j) (Gate k) = nat_lt j k
-
--- two pins in ascending order of drivers; one pin is in order
-abbrev pub ascending : List Driver → List Driver
-ascending [] = []
-ascending (first ∷ []) = first ∷ []
-ascending (first ∷ second ∷ []) = cond (is_before second first) (second ∷ first ∷ []) (first ∷ second ∷ [])
-ascending (first ∷ second ∷ third ∷ more) = first ∷ second ∷ third ∷ more
 
 -- the cell that is true exactly where a row matches: NOT for the row `0`, AND for `11`
 abbrev pub cell_of : List Bool → Cell

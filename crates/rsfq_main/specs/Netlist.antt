@@ -1,5 +1,5 @@
 -- The netlist of a design: its gates with phases from their levels and the earliest epochs, shared chains and splitter trees.
-use Rattle.std.specs.Prelude.{ℕ, Bool, ◌≡◌, ◌<◌, List, [], length}
+use Rattle.std.specs.Prelude.{ℕ, Bool, ◌≡◌, ◌<◌, List, length}
 use Rattle.pulse_net.specs.declared.net.Names.{Names}
 use Rattle.pulse_net.specs.declared.net.PulseNet.{PulseNet}
 use Rattle.pulse_net.specs.Validity.{IsValid}
@@ -11,7 +11,7 @@ use Rattle.rsfq_main.specs.declared.design.Design.{Design}
 use Rattle.rsfq_main.specs.DesignValues.{output_value}
 use Rattle.rsfq_main.specs.Mapping.{gates_of}
 use Rattle.rsfq_main.specs.Clocking.{clocked}
-use Rattle.rsfq_main.specs.Spelling.{spelling_of}
+use Rattle.rsfq_main.specs.Spelling.{spelling_of, no_flow}
 
 -- the names of a design
 abbrev pub names_of : Design → Names
@@ -35,4 +35,4 @@ pub record Means (n : ℕ) (design : Design) (net : PulseNet) : Type 0 where
 
 -- bytes mean a design where they spell a netlist that means it
 abbrev pub SpellsMeaning : ℕ → Design → List ℕ → Type 0
-SpellsMeaning n design bytes = (net : PulseNet) × (bytes ≡ spelling_of net []) × Means n design net
+SpellsMeaning n design bytes = (net : PulseNet) × (bytes ≡ spelling_of net no_flow) × Means n design net

@@ -1,7 +1,8 @@
 -- What the signals of a plain design keep to. A driver is an input or a table's target, a use is a pin or an output.
 use Rattle.std.specs.Prelude.{◌≡◌, ◌≤◌, ◌⊎◌, ℕ, Bool, true, false, not, ◌&&◌, List, [], ◌∷◌, ◌++◌, length, map, All, Option, Some, None}
-use Rattle.std.specs.List.{list_any, list_all, flat_map}
+use Rattle.std.specs.List.{list_all, flat_map}
 use Rattle.std.specs.Str.{bytes_eq}
+use Rattle.net_base.specs.Keys.{is_among}
 use Rattle.rsfq_main.specs.declared.design.Design.{Design}
 use Rattle.rsfq_main.specs.declared.design.Table.{Table}
 use Rattle.rsfq_main.specs.declared.plain.TheConstants.{MAX_PLAIN_NAMES, MAX_PLAIN_TABLES}
@@ -14,21 +15,18 @@ None >>= f = None
 abbrev pub Names : Type 0
 Names = List (List ℕ)
 
-abbrev pub is_among : List ℕ → Names → Bool
-is_among name names = list_any (bytes_eq name) names
-
 -- the same names are among both, in whatever order, and however often
 abbrev pub AreSameNames : Names → Names → Type 0
-AreSameNames names others = (name : List ℕ) → is_among name names ≡ is_among name others
+AreSameNames names others = (name : List ℕ) → is_among bytes_eq name names ≡ is_among bytes_eq name others
 
 -- the names differ from these, and from one another
 abbrev pub are_new : Names → Names → Bool
 are_new names [] = true
-are_new names (name ∷ more) = not (is_among name names) && are_new (names ++ name ∷ []) more
+are_new names (name ∷ more) = not (is_among bytes_eq name names) && are_new (names ++ name ∷ []) more
 
 -- a table behind these drivers: its pins are among them, and its target isn't
 abbrev pub is_table : Names → Table → Bool
-is_table drivers table = list_all (λ pin. is_among pin drivers) table.pins && not (is_among table.target drivers)
+is_table drivers table = list_all (λ pin. is_among bytes_eq pin drivers) table.pins && not (is_among bytes_eq table.target drivers)
 
 -- the same of tables in order
 abbrev pub are_tables : Names → List Table → Bool
@@ -48,8 +46,8 @@ is_circuit design =
     are_new [] design.inputs
     && are_tables design.inputs design.tables
     && are_new [] design.outputs
-    && list_all (λ output. is_among output (drivers_of design)) design.outputs
-    && list_all (λ table. is_among table.target (uses_of design)) design.tables
+    && list_all (λ output. is_among bytes_eq output (drivers_of design)) design.outputs
+    && list_all (λ table. is_among bytes_eq table.target (uses_of design)) design.tables
 
 -- a table has the row `0` or `11`, and as many pins as its row has bits
 pub record HasShape (table : Table) : Type 0 where

@@ -12,13 +12,13 @@ use Rattle.rsfq_main.specs.declared.fault.Fault.TheVariants as faults
 use Rattle.rsfq_main.specs.declared.run.TheConstants.{MAX_TEXT_BYTES}
 use Rattle.rsfq_main.specs.PlainForm.{plain_design}
 use Rattle.rsfq_main.specs.Faults.{refusal_line, fault_line}
-use Rattle.rsfq_main.specs.Spelling.{spelling_of}
+use Rattle.rsfq_main.specs.Spelling.{spelling_of, no_flow}
 use Rattle.rsfq_main.specs.Netlist.{netlist_of, SpellsMeaning}
 
 -- the netlist text of a design with n phases; no design is no plain text
 abbrev pub design_output : ℕ → Option Design → Result (List ℕ) Refusal
 design_output n None = Err NotYet
-design_output n (Some design) = Ok (spelling_of (netlist_of n design) [])
+design_output n (Some design) = Ok (spelling_of (netlist_of n design) no_flow)
 
 -- what `map` makes of a text with n phases: the bytes of its netlist, or why it refuses
 abbrev pub output_of : ℕ → List ℕ → Result (List ℕ) Refusal

@@ -1,8 +1,10 @@
--- The netlist text: the one spelling of a netlist and of the units of a flow.
-use Rattle.std.specs.Prelude.{ℕ, List, [], ◌∷◌, ◌++◌, Option, Some, None, codes, decimal}
-use Rattle.std.specs.List.{flat_map}
+-- The netlist text: the one spelling of a netlist and of a flow.
+use Rattle.std.specs.Prelude.{ℕ, Bool, true, false, cond, List, [], ◌∷◌, ◌++◌, Option, Some, None, codes, decimal}
+use Rattle.std.specs.List.{flat_map, list_any}
 use Rattle.cell_lib.specs.declared.cell.Cell.{Cell}
-use Rattle.cell_lib.specs.declared.cell.Cell.TheVariants.{Dro, Not, And, Or, Xor}
+use Rattle.cell_lib.specs.declared.cell.Cell.TheVariants.{Dro, Not, And, Or, Xor, Maj}
+use Rattle.flow_net.specs.declared.net.Units.{Units}
+use Rattle.flow_net.specs.declared.net.Flow.{Flow}
 use Rattle.pulse_net.specs.declared.net.Element.{Element}
 use Rattle.pulse_net.specs.declared.net.Element.TheVariants.{Clocked, Split}
 use Rattle.pulse_net.specs.declared.net.Outlet.{Outlet}
@@ -27,6 +29,7 @@ cell_word Not = codes "not"
 cell_word And = codes "and"
 cell_word Or = codes "or"
 cell_word Xor = codes "xor"
+cell_word Maj = codes "maj"
 
 -- a clocked element is its cell, its stage, the wires of its pins and the wire that it makes
 abbrev pub element_line : Element → List ℕ
@@ -52,23 +55,40 @@ output_lines (name ∷ names) (outlet ∷ outlets) = name_line (codes "output") 
 output_lines names outlets = []
 
 -- the units on a pin's two arcs
-abbrev pub flow_line : ℕ × ℕ → List ℕ
-flow_line units = line (codes "flow") (units.0 ∷ units.1 ∷ [])
+abbrev pub flow_line : Units → List ℕ
+flow_line units = line (codes "flow") (units.forward ∷ units.back ∷ [])
 
--- the format, and the model's name
-unfoldable pub model_lines : List ℕ → List ℕ
-model_lines model = codes "rsfq 1\nmodel" ++ codes " " ++ model ++ codes "\n"
+-- whether an element is a majority cell
+abbrev pub is_majority : Element → Bool
+is_majority (Clocked Maj stage pins out) = true
+is_majority element = false
+
+-- the number of the format: 2 where there is a majority cell, which format 1 has not, and else 1
+abbrev pub format_of : List Element → ℕ
+format_of elements = cond (list_any is_majority elements) 2 1
+
+-- the model's name
+unfoldable pub model_line : List ℕ → List ℕ
+model_line model = codes "model" ++ codes " " ++ model ++ codes "\n"
 
 -- the format, the model, the phases and the latency
 unfoldable pub header_lines : PulseNet → List ℕ
-header_lines net = model_lines net.names.model ++ line (codes "phases") (net.phases ∷ []) ++ line (codes "latency") (net.latency ∷ [])
+header_lines net =
+    line (codes "rsfq") (format_of net.elements ∷ [])
+    ++ model_line net.names.model
+    ++ line (codes "phases") (net.phases ∷ [])
+    ++ line (codes "latency") (net.latency ∷ [])
 
--- the text of a netlist, with a line for the units of each pin
-abbrev pub spelling_of : PulseNet → List (ℕ × ℕ) → List ℕ
+-- the text of a netlist and a flow, with a line for the units of each pin
+abbrev pub spelling_of : PulseNet → Flow → List ℕ
 spelling_of net flow =
     header_lines net
     ++ input_lines net.names.inputs net.inputs
     ++ flat_map element_line net.elements
     ++ output_lines net.names.outputs net.outputs
-    ++ flat_map flow_line flow
+    ++ flat_map flow_line flow.pins
     ++ codes "end\n"
+
+-- the flow of no pins, of which a text has no lines
+abbrev pub no_flow : Flow
+no_flow = record { pins = [] }

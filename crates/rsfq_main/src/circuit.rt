@@ -7,6 +7,7 @@ ghost use Rattle.std.specs.Prelude.{◌≡◌, ◌∷◌, ◌++◌, [], true, no
 ghost use Rattle.std.specs.List.{list_all};
 ghost use Rattle.std.specs.Str.{bytes_eq};
 ghost use Rattle.indexmap.specs.IndexSet.{insert_key};
+ghost use Rattle.net_base.specs.Keys.{is_among};
 ghost use Rattle.rsfq_main.specs.PlainRules as rules;
 
 use crate::design::{Design, Table};
@@ -16,7 +17,7 @@ use std::alloc::Global;
 
 // Adds the name, and answers whether it is new.
 fn add_name(names: &mut IndexSet<Name>, name: &Name) -> Result<bool, NoMemory>
-    ensures is_new { IfOk result (λ is_new. is_new ≡ not (rules.is_among name.now names.old.keys)) }
+    ensures is_new { IfOk result (λ is_new. is_new ≡ not (is_among bytes_eq name.now names.old.keys)) }
     ensures keys { OnOk result (names.new.keys ≡ insert_key bytes_eq names.old.keys name.now) }
 {
     let (_, is_new) = names.insert_full(name.clone()?)?;
@@ -38,7 +39,7 @@ fn add_names(names: &mut IndexSet<Name>, more: &List<Name>) -> Result<bool, NoMe
 
 // Whether each of the names is in the set.
 fn are_among(names: &List<Name>, set: &IndexSet<Name>) -> bool
-    ensures { result ≡ list_all (λ name. rules.is_among name set.now.keys) names.now }
+    ensures { result ≡ list_all (λ name. is_among bytes_eq name set.now.keys) names.now }
 {
     names.as_slice().iter().all(|name| set.contains(name))
 }
@@ -89,7 +90,7 @@ fn uses_of(alloc: Global, design: &Design) -> Result<IndexSet<Name>, NoMemory>
 
 // Whether the target of each table is used.
 fn are_used(tables: &List<Table>, uses: &IndexSet<Name>) -> bool
-    ensures { result ≡ list_all (λ table. rules.is_among table.target uses.now.keys) tables.now }
+    ensures { result ≡ list_all (λ table. is_among bytes_eq table.target uses.now.keys) tables.now }
 {
     tables
         .as_slice()

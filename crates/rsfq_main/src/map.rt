@@ -1,13 +1,15 @@
 //! The command `map`: a BLIF text becomes a netlist text.
 
 ghost use Rattle.std.specs.Prelude.{◌≡◌, ◌≤◌, IfOk, IsErrOf, None};
-ghost use Rattle.pulse_net.specs.declared.net.TheConstants.{MAX_PHASES};
+ghost use Rattle.phase_rule.specs.declared.level.TheConstants.{MAX_PHASES};
 ghost use Rattle.rsfq_main.specs.PlainForm.{plain_design};
 ghost use Rattle.rsfq_main.specs.Map.{Maps};
 
 use crate::netlist::netlist_of;
 use crate::plain::{PlainFault, plain_design as read_design, plain_texts_are_spelled};
 use crate::spelling::spelling_of;
+use flow_net::Flow;
+use net_base::List;
 use std::alloc::Global;
 
 /// The text of the netlist of a plain text's design, with 1 to `MAX_PHASES` phases. `NotPlain` comes exactly where the
@@ -22,6 +24,9 @@ pub fn map(alloc: Global, text: &[u8], phases: u32) -> Result<Vec<u8>, PlainFaul
     plain_texts_are_spelled();
     let design = read_design(alloc, text)?;
     let net = netlist_of(alloc, design, phases)?;
-    let netlist = spelling_of(alloc, &net)?;
+    let no_flow = Flow {
+        pins: List::new(alloc),
+    };
+    let netlist = spelling_of(alloc, &net, &no_flow)?;
     Ok(netlist)
 }

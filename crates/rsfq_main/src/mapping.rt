@@ -14,7 +14,7 @@ ghost use Rattle.rsfq_main.specs.MappingSteps.{IsNew, IsDriven, TakesInputs, Tak
 
 use crate::design::{Design, Table};
 use cell_lib::Cell;
-use gate_net::{Driver, End, GateNet};
+use gate_net::{Driver, End, GateNet, ascending};
 use indexmap::IndexMap;
 use net_base::{List, Name, NoMemory};
 use std::alloc::Global;
@@ -188,15 +188,4 @@ fn cell_of(row: &[bool]) -> Cell
         [false] => Cell::Not,
         _ => Cell::And,
     }
-}
-
-// Two pins in ascending order of their drivers, inputs before gates.
-fn ascending(pins: List<Driver>) -> List<Driver>
-    ensures { result ≡ spec.ascending pins }
-{
-    let mut pins = pins.into_vec();
-    if pins.len() == 2 && pins[1] < pins[0] {
-        pins.swap(0, 1);
-    }
-    List::from_vec(pins)
 }

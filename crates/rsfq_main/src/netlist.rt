@@ -1,7 +1,7 @@
 //! The netlist of a design, and what it means.
 
 ghost use Rattle.std.specs.Prelude.{◌≡◌, ◌≤◌, IfOk};
-ghost use Rattle.pulse_net.specs.declared.net.TheConstants.{MAX_PHASES};
+ghost use Rattle.phase_rule.specs.declared.level.TheConstants.{MAX_PHASES};
 ghost use Rattle.rsfq_main.specs.PlainRules.{IsPlain};
 ghost use Rattle.rsfq_main.specs.Netlist.{netlist_of, Means};
 

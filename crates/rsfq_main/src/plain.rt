@@ -7,7 +7,7 @@ ghost use Rattle.std.specs.Prelude.{◌≡◌, ◌∷◌, [], true, false, Some,
 ghost use Rattle.std.specs.Option.{option_copied};
 ghost use Rattle.std.specs.List.{prefix_len};
 ghost use Rattle.rsfq_main.specs.PlainForm as form;
-ghost use Rattle.rsfq_main.specs.PlainReading.{Gives};
+ghost use Rattle.rsfq_main.specs.PlainReading.{Reads};
 ghost use Rattle.rsfq_main.specs.PlainRules.{IsPlain};
 ghost use Rattle.rsfq_main.specs.PlainText.{PlainTextsAreSpelled};
 ghost use Rattle.rsfq_main.specs.declared.plain.PlainFault.TheVariants.{NoMemory};
@@ -57,7 +57,7 @@ fn after<'a>(front: &[u8], text: &'a [u8]) -> Option<&'a [u8]>
 
 // The same, where the text has to begin so.
 fn expect_after<'a>(front: &[u8], text: &'a [u8]) -> Result<&'a [u8], PlainFault>
-    ensures { Gives (λ rest. rest.now) result (form.after front.now text.now) }
+    ensures { Reads (λ rest. rest.now) result (form.after front.now text.now) }
 {
     match after(front, text) {
         Some(rest) => Ok(rest),
@@ -81,7 +81,7 @@ fn plain_len(text: &[u8]) -> usize
 
 #[tactic(auto, unfolding(crate::specs::PlainForm::name_at))]
 fn name_at(alloc: Global, text: &[u8]) -> Result<(Name, &[u8]), PlainFault>
-    ensures { Gives (λ read. (read.0, read.1.now)) result (form.name_at text.now) }
+    ensures { Reads (λ read. (read.0, read.1.now)) result (form.name_at text.now) }
 {
     let len = plain_len(text);
     if len == 0 || len > MAX_NAME_BYTES {
@@ -95,7 +95,7 @@ fn name_at(alloc: Global, text: &[u8]) -> Result<(Name, &[u8]), PlainFault>
 // A name behind a space.
 #[tactic(auto, unfolding(crate::specs::PlainForm::further_name_at))]
 fn further_name_at(alloc: Global, text: &[u8]) -> Result<(Name, &[u8]), PlainFault>
-    ensures { Gives (λ read. (read.0, read.1.now)) result (form.further_name_at text.now) }
+    ensures { Reads (λ read. (read.0, read.1.now)) result (form.further_name_at text.now) }
 {
     let rest = expect_after(b" ", text)?;
     name_at(alloc, rest)
@@ -103,7 +103,7 @@ fn further_name_at(alloc: Global, text: &[u8]) -> Result<(Name, &[u8]), PlainFau
 
 #[tactic(auto, unfolding(crate::specs::PlainForm::model_line_at))]
 fn model_line_at(alloc: Global, text: &[u8]) -> Result<(Name, &[u8]), PlainFault>
-    ensures { Gives (λ read. (read.0, read.1.now)) result (form.model_line_at text.now) }
+    ensures { Reads (λ read. (read.0, read.1.now)) result (form.model_line_at text.now) }
 {
     let rest = expect_after(b".model ", text)?;
     let (name, rest) = name_at(alloc, rest)?;
@@ -113,14 +113,14 @@ fn model_line_at(alloc: Global, text: &[u8]) -> Result<(Name, &[u8]), PlainFault
 
 // The end of the line behind these names.
 fn name_line_end(names: List<Name>, text: &[u8]) -> Result<(List<Name>, &[u8]), PlainFault>
-    ensures { Gives (λ read. (read.0, read.1.now)) result (form.behind_names names (form.ended_at text.now)) }
+    ensures { Reads (λ read. (read.0, read.1.now)) result (form.behind_names names (form.ended_at text.now)) }
 {
     let rest = expect_after(b"\n", text)?;
     Ok((names, rest))
 }
 
 fn names_at(alloc: Global, most: usize, text: &[u8]) -> Result<(List<Name>, &[u8]), PlainFault>
-    ensures { Gives (λ read. (read.0, read.1.now)) result (form.names_at most text.now) }
+    ensures { Reads (λ read. (read.0, read.1.now)) result (form.names_at most text.now) }
 {
     let mut names = List::new(alloc);
     let mut rest = text;
@@ -143,7 +143,7 @@ fn name_line_at<'a>(
     keyword: &[u8],
     text: &'a [u8],
 ) -> Result<(List<Name>, &'a [u8]), PlainFault>
-    ensures { Gives (λ read. (read.0, read.1.now)) result (form.name_line_at keyword.now text.now) }
+    ensures { Reads (λ read. (read.0, read.1.now)) result (form.name_line_at keyword.now text.now) }
 {
     let rest = expect_after(keyword, text)?;
     let (names, rest) = names_at(alloc, MAX_PLAIN_NAMES, rest)?;
@@ -155,7 +155,7 @@ fn name_line_at<'a>(
 
 // A table of the row `0`.
 fn not_table(alloc: Global, pin: Name, target: Name) -> Result<Table, PlainFault>
-    ensures { Gives (λ table. table) result (Some (record { row = false ∷ []; pins = pin ∷ []; target = target })) }
+    ensures { Reads (λ table. table) result (Some (record { row = false ∷ []; pins = pin ∷ []; target = target })) }
 {
     let mut row = List::new(alloc);
     row.push(false)?;
@@ -166,7 +166,7 @@ fn not_table(alloc: Global, pin: Name, target: Name) -> Result<Table, PlainFault
 
 // A table of the row `11`.
 fn and_table(alloc: Global, first: Name, second: Name, target: Name) -> Result<Table, PlainFault>
-    ensures { Gives (λ table. table) result (Some (record { row = true ∷ true ∷ []; pins = first ∷ second ∷ []; target = target })) }
+    ensures { Reads (λ table. table) result (Some (record { row = true ∷ true ∷ []; pins = first ∷ second ∷ []; target = target })) }
 {
     let mut row = List::new(alloc);
     row.push(true)?;
@@ -179,7 +179,7 @@ fn and_table(alloc: Global, first: Name, second: Name, target: Name) -> Result<T
 
 #[tactic(auto, unfolding(crate::specs::PlainForm::table_at))]
 fn table_at(alloc: Global, text: &[u8]) -> Result<(Table, &[u8]), PlainFault>
-    ensures { Gives (λ read. (read.0, read.1.now)) result (form.table_at text.now) }
+    ensures { Reads (λ read. (read.0, read.1.now)) result (form.table_at text.now) }
 {
     let (first, rest) = further_name_at(alloc, text)?;
     let (second, rest) = further_name_at(alloc, rest)?;
@@ -199,7 +199,7 @@ fn table_at(alloc: Global, text: &[u8]) -> Result<(Table, &[u8]), PlainFault>
 
 // The end line behind these tables, and nothing after it.
 fn tables_end(tables: List<Table>, text: &[u8]) -> Result<List<Table>, PlainFault>
-    ensures { Gives (λ tables. tables) result (form.behind_tables tables (form.end_of text.now)) }
+    ensures { Reads (λ tables. tables) result (form.behind_tables tables (form.end_of text.now)) }
 {
     if text == b".end\n".as_slice() {
         Ok(tables)
@@ -209,7 +209,7 @@ fn tables_end(tables: List<Table>, text: &[u8]) -> Result<List<Table>, PlainFaul
 }
 
 fn tables_of(alloc: Global, text: &[u8]) -> Result<List<Table>, PlainFault>
-    ensures { Gives (λ tables. tables) result (form.tables_of MAX_PLAIN_TABLES text.now) }
+    ensures { Reads (λ tables. tables) result (form.tables_of MAX_PLAIN_TABLES text.now) }
 {
     let mut tables = List::new(alloc);
     let mut rest = text;
@@ -229,7 +229,7 @@ fn tables_of(alloc: Global, text: &[u8]) -> Result<List<Table>, PlainFault>
 // The design that the lines spell, whichever signals they name.
 #[tactic(auto, unfolding(crate::specs::PlainForm::lines_of))]
 fn lines_of(alloc: Global, text: &[u8]) -> Result<Design, PlainFault>
-    ensures { Gives (λ design. design) result (form.lines_of text.now) }
+    ensures { Reads (λ design. design) result (form.lines_of text.now) }
 {
     let (model, rest) = model_line_at(alloc, text)?;
     let (inputs, rest) = name_line_at(alloc, b".inputs", rest)?;
@@ -246,7 +246,7 @@ fn lines_of(alloc: Global, text: &[u8]) -> Result<Design, PlainFault>
 /// The design that a text of the plain form spells. `NotPlain` comes exactly where the text isn't of the form.
 #[tactic(auto, unfolding(crate::specs::PlainForm::plain_design))]
 pub fn plain_design(alloc: Global, text: &[u8]) -> Result<Design, PlainFault>
-    ensures design { Gives (λ design. design) result (form.plain_design text.now) }
+    ensures design { Reads (λ design. design) result (form.plain_design text.now) }
     ensures plain { IfOk result IsPlain }
 {
     let design = lines_of(alloc, text)?;

@@ -3,11 +3,12 @@
 //! Each function adds its lines at the end of the text, as the definition of its name in `specs/Spelling.antt` spells
 //! them. The whole is linear in the bytes.
 
-ghost use Rattle.std.specs.Prelude.{◌≡◌, ◌++◌, [], IfOk, OnOk, codes, decimal};
-ghost use Rattle.std.specs.List.{flat_map};
+ghost use Rattle.std.specs.Prelude.{◌≡◌, ◌++◌, IfOk, OnOk, codes, decimal};
+ghost use Rattle.std.specs.List.{flat_map, list_any};
 ghost use Rattle.rsfq_main.specs.Spelling as text;
 
 use cell_lib::Cell;
+use flow_net::{Flow, Units};
 use itoa::Buffer;
 use net_base::{List, Name, NoMemory};
 use pulse_net::{Element, Outlet, PulseNet};
@@ -48,6 +49,7 @@ fn cell_word(cell: Cell) -> &'static [u8]
         Cell::And => b"and",
         Cell::Or => b"or",
         Cell::Xor => b"xor",
+        Cell::Maj => b"maj",
     }
 }
 
@@ -155,12 +157,45 @@ fn push_outputs(
     Ok(())
 }
 
-// The lines of the format and of the model.
-#[tactic(auto, unfolding(crate::specs::Spelling::model_lines))]
-fn push_model(out: &mut Vec<u8>, model: &Name) -> Result<(), NoMemory>
-    ensures { OnOk result (out.new.items ≡ out.old.items ++ text.model_lines model.now) }
+fn push_flow(out: &mut Vec<u8>, units: &[Units]) -> Result<(), NoMemory>
+    ensures { OnOk result (out.new.items ≡ out.old.items ++ flat_map text.flow_line units.now) }
 {
-    push_name(out, b"rsfq 1\nmodel", model)?;
+    for one in units {
+        push_line(out, b"flow", &[one.forward, one.back])?;
+    }
+    Ok(())
+}
+
+fn is_majority(element: &Element) -> bool
+    ensures { result ≡ text.is_majority element.now }
+{
+    matches!(
+        element,
+        Element::Clocked {
+            cell: Cell::Maj,
+            ..
+        }
+    )
+}
+
+fn has_majority(elements: &[Element]) -> bool
+    ensures { result ≡ list_any text.is_majority elements.now }
+{
+    elements.iter().any(|element| is_majority(element))
+}
+
+// The number of the format.
+fn format_of(elements: &[Element]) -> u32
+    ensures { result ≡ text.format_of elements.now }
+{
+    if has_majority(elements) { 2 } else { 1 }
+}
+
+#[tactic(auto, unfolding(crate::specs::Spelling::model_line))]
+fn push_model(out: &mut Vec<u8>, model: &Name) -> Result<(), NoMemory>
+    ensures { OnOk result (out.new.items ≡ out.old.items ++ text.model_line model.now) }
+{
+    push_name(out, b"model", model)?;
     out.extend_from_slice(b"\n")
 }
 
@@ -169,21 +204,23 @@ fn push_model(out: &mut Vec<u8>, model: &Name) -> Result<(), NoMemory>
 fn push_header(out: &mut Vec<u8>, net: &PulseNet) -> Result<(), NoMemory>
     ensures { OnOk result (out.new.items ≡ out.old.items ++ text.header_lines net.now) }
 {
+    push_line(out, b"rsfq", &[format_of(net.elements.as_slice())])?;
     push_model(out, &net.names.model)?;
     push_line(out, b"phases", &[net.phases])?;
     push_line(out, b"latency", &[net.latency])?;
     Ok(())
 }
 
-/// The netlist text of a netlist, without flow lines.
-pub fn spelling_of(alloc: Global, net: &PulseNet) -> Result<Vec<u8>, NoMemory>
-    ensures { IfOk result (λ bytes. bytes.items ≡ text.spelling_of net.now []) }
+/// The netlist text of a netlist and a flow: in format 2 where the netlist has a majority cell, and else in format 1.
+pub fn spelling_of(alloc: Global, net: &PulseNet, flow: &Flow) -> Result<Vec<u8>, NoMemory>
+    ensures { IfOk result (λ bytes. bytes.items ≡ text.spelling_of net.now flow.now) }
 {
     let mut out = Vec::new(alloc);
     push_header(&mut out, net)?;
     push_inputs(&mut out, &net.names.inputs, &net.inputs)?;
     push_elements(&mut out, net.elements.as_slice())?;
     push_outputs(&mut out, &net.names.outputs, &net.outputs)?;
+    push_flow(&mut out, flow.pins.as_slice())?;
     out.extend_from_slice(b"end\n")?;
     Ok(out)
 }

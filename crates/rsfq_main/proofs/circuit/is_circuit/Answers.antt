@@ -1,6 +1,8 @@
 use Rattle.std.proofs.Common.{◌≡◌, true, [], ◌++◌, map, sym, ap, ◌∙◌, subst}
 use Rattle.std.specs.List.{list_all}
-use Rattle.rsfq_main.specs.PlainRules.{Names, is_among, are_new, are_tables}
+use Rattle.std.specs.Str.{bytes_eq}
+use Rattle.net_base.specs.Keys.{is_among}
+use Rattle.rsfq_main.specs.PlainRules.{Names, are_new, are_tables}
 use Rattle.rsfq_main.proofs.CircuitNames.{is_circuit-rest}
 use Rattle.rsfq_main.proofs.circuit.is_circuit.Goals as goal
 
@@ -14,7 +16,7 @@ returns c =
     let tables_pass : are_tables c.add_names.new.names.keys design.tables ≡ true = sym c.in_ok-add_tables.ensures.are_tables ∙ c.if-not-branch-2.false in
     let drivers : c.add_tables.new.drivers.keys ≡ c.add_names.new.names.keys ++ map (λ table. table.target) design.tables = c.in_ok-add_tables.ensures.keys c.if-not-branch-2.false in
     let new_outputs : are_new c.new-outputs.result.keys design.outputs ≡ true = sym c.in_ok-add_names-2.ensures.are_new ∙ c.if-not-branch-3.false in
-    let driven : list_all (λ output. is_among output c.add_tables.new.drivers.keys) design.outputs ≡ true = sym c.are_among.ensures ∙ c.if-not-are_among.false in
+    let driven : list_all (λ output. is_among bytes_eq output c.add_tables.new.drivers.keys) design.outputs ≡ true = sym c.are_among.ensures ∙ c.if-not-are_among.false in
     let inputs_alone : c.add_names.new.names.keys ≡ design.inputs = inputs ∙ ap (λ names. names ++ design.inputs) no_drivers in
     c.are_used.ensures
     ∙ is_circuit-rest design c.add_tables.new.drivers.keys c.in_ok-uses.uses.keys

@@ -1,5 +1,5 @@
 use Rattle.std.proofs.Common.{◌≡◌, ◌≤◌}
-use Rattle.pulse_net.specs.declared.net.TheConstants.{MAX_PHASES}
+use Rattle.phase_rule.specs.declared.level.TheConstants.{MAX_PHASES}
 use Rattle.rsfq_main.specs.Words.{phases_in}
 use Rattle.rsfq_main.proofs.words.phases_in.Given as goal
 

@@ -1,6 +1,7 @@
 use Rattle.std.proofs.Common.{ap, ◌∙◌, map}
 use Rattle.std.proofs.lemmas.Result.{on_ok_weaker}
-use Rattle.rsfq_main.specs.Mapping.{driver_named, ascending, cell_of}
+use Rattle.rsfq_main.specs.Mapping.{driver_named, cell_of}
+use Rattle.gate_net.specs.Order.{ascending}
 use Rattle.rsfq_main.proofs.MappingCalls.{answer-row, answer-gate, answer-table}
 use Rattle.rsfq_main.proofs.mapping.Mapper.pass_table.Goals as goal
 
