@@ -3,7 +3,7 @@ use Rattle.std.proofs.Common.{◌≡◌, ◌<◌, ◌≤◌, ◌+◌, ◌*◌, �
 use Rattle.std.specs.List.{flat_map, list_any}
 use Rattle.std.proofs.Math.Nat.{div-le_self}
 use Rattle.std.proofs.lemmas.Bool.{cases_lt}
-use Rattle.std.proofs.lemmas.List.{length_push, length-map, get_or-map, map-append, get_or_past}
+use Rattle.std.proofs.lemmas.List.{length_push, length-map, get_or-map, map-append, get_or_past, nil_from_length}
 use Rattle.std.proofs.lemmas.List.Elements.{All-nil, All-push, All-map, All-weaker}
 use Rattle.std.proofs.lemmas.List.Sums.{sum_by-le, sum_by_push}
 use Rattle.net_base.proofs.CallerLemmas.{bit-le}
@@ -14,8 +14,9 @@ use Rattle.gate_net.specs.declared.row.GateRow.{GateRow}
 use Rattle.gate_net.specs.declared.net.GateNet.{GateNet}
 use Rattle.gate_net.specs.Rows.{same_driver}
 use Rattle.gate_net.specs.Net.{IsGateNet, end_drivers, pin_drivers}
+use Rattle.gate_net.specs.Entries.{entry_of}
 use Rattle.gate_net.proofs.CallerLemmas.{length-end_drivers-le}
-use Rattle.phase_rule.specs.Levels.{levels_of, phases_of}
+use Rattle.phase_rule.specs.Levels.{largest, levels_of, phases_of}
 use Rattle.phase_rule.specs.Stages.{stage_of}
 use Rattle.phase_rule.proofs.CallerLemmas.{length-levels_of, levels-le, largest-entries-le}
 use Rattle.flow_net.specs.declared.uses.Use.{Use}
@@ -148,6 +149,18 @@ earliest_gates-le n net =
 pub earliest_sink-le : (n : ℕ) (net : GateNet) → (earliest_epochs n net).sink ≤ length net.gates + 1
 earliest_sink-le n net =
     omega (arith, largest-entries-le (earliest_gates n net) (length net.gates) (flat_map end_drivers net.outputs) (earliest_gates-le n net))
+
+-- With no use there is no driver of an output, so the sink stands 1 behind the source.
+pub earliest_sink-unused : (n : ℕ) (net : GateNet) → uses_of net ≡ [] → (earliest_epochs n net).sink ≡ 1
+earliest_sink-unused n net none =
+    let drivers = flat_map end_drivers net.outputs in
+    let gates = flat_map (λ (row : GateRow). row.pins) net.gates in
+    let empty : drivers ≡ [] = nil_from_length drivers (omega (arith, length-uses_of net, length-append gates drivers, ap length none)) in
+    ap (λ ds. 1 + largest (map (entry_of (earliest_gates n net)) ds)) empty
+
+-- There is one earliest epoch for each gate.
+pub length-earliest_gates : (n : ℕ) (net : GateNet) → length (earliest_epochs n net).gates ≡ length net.gates
+length-earliest_gates n net = length-map (levels_of net) (λ level. level / n) ∙ length-levels_of net
 
 -- A gate's stage is its level, split into its epoch and its phase.
 pub earliest_stages-are-levels : (n : ℕ) (net : GateNet) (k : ℕ) → 0 < n → k < length net.gates → stage_of n (get_or (earliest_gates n net) k 0) (get_or (phases_of n (levels_of net)) k 0) ≡ get_or (levels_of net) k 0

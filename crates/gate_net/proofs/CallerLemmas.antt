@@ -24,7 +24,7 @@ use Rattle.gate_net.specs.declared.row.End.TheVariants.{Zero, One, From}
 use Rattle.gate_net.specs.declared.row.GateRow.{GateRow}
 use Rattle.gate_net.specs.declared.net.GateNet.{GateNet}
 use Rattle.gate_net.specs.Rows.{same_driver, same_row, first_place, gate_place, with_row, IsFirstPlace}
-use Rattle.gate_net.specs.Net.{IsThere, IsEndThere, IsGate, AreGates, IsGateNet, with_gate, end_drivers, pin_drivers}
+use Rattle.gate_net.specs.Net.{IsThere, IsEndThere, IsGate, AreGates, IsGateNet, bare_net, with_gate, end_drivers, pin_drivers}
 use Rattle.gate_net.specs.Entries.{entry_of}
 use Rattle.gate_net.specs.Order.{is_before, insert_pin, ascending}
 use Rattle.gate_net.specs.Values.{driver_value, gate_value, values_by}
@@ -106,6 +106,15 @@ with_row-place row rows k = by (first_place row rows)
         ⊎_elim {C = (k < length rows) ⊎ (k ≡ length rows)} inl
         (λ behind. let longer = length_push rows row in inr (omega (arith, longer)))
         (cases_lt k (length rows))
+
+-- The netlist without gates and outputs is well formed.
+pub bare_net-formed : (inputs : ℕ) → IsGateNet (bare_net inputs)
+bare_net-formed inputs = record {
+  gates = λ place d within. absurd (omega arith);
+  outputs = All-nil (IsEndThere inputs 0);
+  few_gates = omega arith;
+  few_outputs = omega arith;
+}
 
 -- A gate behind its drivers may be pushed.
 pub AreGates-push : (inputs : ℕ) (rows : List GateRow) (row : GateRow) → AreGates inputs rows → IsGate inputs (length rows) row → AreGates inputs (rows ++ row ∷ [])

@@ -1,11 +1,15 @@
 -- The lemmas that other crates cite: lists of answers per item, look-ups by key, answers that may be faults, and entries.
-use Rattle.std.proofs.Common.{◌≡◌, ◌<◌, ◌≤◌, ◌+◌, ◌++◌, ◌||◌, ◌∙◌, ℕ, zero, suc, Bool, true, false, cond, List, [], ◌∷◌, length, get_or, take, drop, map, All, refl, sym, ap, arith, true≢false}
+use Rattle.std.proofs.Common.{◌≡◌, ◌<◌, ◌≤◌, ◌+◌, ◌++◌, ◌||◌, ◌∙◌, ℕ, zero, suc, Bool, true, false, cond, List, [], ◌∷◌, length, get_or, take, drop, map, All, nat_eq, refl, sym, ap, arith, true≢false}
 use Rattle.std.specs.Prelude.{Some, None, Result, Ok, Err, unwrap_or}
-use Rattle.std.specs.List.{AllByRecursion, list_any}
+use Rattle.std.specs.Cmp.{nat_eq_equiv}
+use Rattle.std.specs.List.{AllByRecursion, IsDistinct, list_any}
 use Rattle.std.specs.Map.{lookup, keys_of}
+use Rattle.std.proofs.lemmas.Bool.{or_from}
 use Rattle.std.proofs.lemmas.List.{take_all, take-take, take_at, length_push, get_or_at, get_or-take, at_drop_more}
 use Rattle.std.proofs.lemmas.List.Elements.{All-head, All-tail}
+use Rattle.std.proofs.lemmas.Map.Keys.{IsDistinct-head, IsDistinct-tail}
 use Rattle.net_base.specs.Answers.{◌>>=◌}
+use Rattle.net_base.specs.Keys.{is_among}
 use Rattle.net_base.specs.PerItem.{per_item}
 
 -- One answer per item, each from the answers before it.
@@ -149,3 +153,11 @@ get_or-below limit (entry ∷ entries) (suc k) some all = get_or-below limit ent
 pub AllByRecursion-middle : {A : Type 0} (P : A → Type 0) (before after : List A) (x : A) → AllByRecursion P (before ++ x ∷ after) → P x
 AllByRecursion-middle P [] after x all = all.0
 AllByRecursion-middle P (y ∷ before) after x all = AllByRecursion-middle P before after x all.1
+
+-- Where no number stands twice, the next one is not among those before it.
+pub is_among-next : (before after : List ℕ) (next : ℕ) → IsDistinct nat_eq (before ++ next ∷ after) → is_among nat_eq next before ≡ false
+is_among-next [] after next h = refl
+is_among-next (x ∷ before) after next h =
+    let all = before ++ next ∷ after in
+    let other : nat_eq x next ≡ false = AllByRecursion-middle (λ z. nat_eq x z ≡ false) before after next (IsDistinct-head nat_eq x all h) in
+    or_from (nat_eq next x) (is_among nat_eq next before) (nat_eq_equiv.symm next x ∙ other) (is_among-next before after next (IsDistinct-tail nat_eq x all h))

@@ -4,10 +4,9 @@ use Rattle.std.specs.Prelude.{Option, Some, None, flat_map, option_to_list}
 use Rattle.std.specs.List.{IsDistinct}
 use Rattle.std.specs.Map.{keys_of}
 use Rattle.std.specs.Cmp.{nat_eq_equiv}
-use Rattle.std.proofs.lemmas.Bool.{or_cases, or_from, or_left, or_right, true≢false, eqb-true}
+use Rattle.std.proofs.lemmas.Bool.{or_cases, or_left, or_right, true≢false, eqb-true}
 use Rattle.std.proofs.lemmas.List.{append-nil, map-append}
-use Rattle.std.proofs.lemmas.Map.Keys.{IsDistinct-head, IsDistinct-tail}
-use Rattle.net_base.proofs.CallerLemmas.{lookup-absent, AllByRecursion-middle}
+use Rattle.net_base.proofs.CallerLemmas.{lookup-absent, is_among-next}
 use Rattle.pulse_net.specs.declared.net.Element.{Element}
 use Rattle.pulse_net.specs.declared.net.Element.TheVariants.{Clocked, Split}
 use Rattle.pulse_net.specs.declared.net.PulseNet.{PulseNet}
@@ -15,12 +14,6 @@ use Rattle.pulse_net.specs.Wires.{Wires, found, input_wires, element_wires, afte
 use Rattle.net_base.specs.Keys.{is_among}
 use Rattle.pulse_net.specs.Validity.{lesser, with_unused, least_unused}
 use Rattle.pulse_net.specs.Wired.{element_makes, makes_of}
-
--- where no wire stands twice, the next one is not among those before it
-pub is_among-next : (xs ys : List ℕ) (y : ℕ) → IsDistinct nat_eq (xs ++ y ∷ ys) → is_among nat_eq y xs ≡ false
-is_among-next [] ys y h = refl
-is_among-next (x ∷ xs) ys y h =
-    or_from (nat_eq y x) (is_among nat_eq y xs) (nat_eq_equiv.symm y x ∙ AllByRecursion-middle (λ z. nat_eq x z ≡ false) xs ys y (IsDistinct-head nat_eq x (xs ++ y ∷ ys) h)) (is_among-next xs ys y (IsDistinct-tail nat_eq x (xs ++ y ∷ ys) h))
 
 pub keys-element : (made : Wires ℕ) (element : Element) → keys_of (element_wires 0 cell_stage made element) ≡ element_makes element
 keys-element made (Clocked cell stage pins out) = refl

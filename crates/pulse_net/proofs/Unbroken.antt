@@ -9,7 +9,7 @@ use Rattle.std.proofs.lemmas.Bool.{true≢false, and_from, lt-ltb, le-leb}
 use Rattle.std.proofs.lemmas.Map.Keys.{IsDistinct-from_apart}
 use Rattle.std.proofs.lemmas.List.{append-nil, map-append}
 use Rattle.net_base.specs.Answers.{◌>>=◌}
-use Rattle.net_base.proofs.CallerLemmas.{bind-Ok, lookup-absent}
+use Rattle.net_base.proofs.CallerLemmas.{bind-Ok, lookup-absent, is_among-next}
 use Rattle.pulse_net.specs.declared.net.Element.{Element}
 use Rattle.pulse_net.specs.declared.net.Element.TheVariants.{Clocked, Split}
 use Rattle.pulse_net.specs.declared.net.Outlet.{Outlet}
@@ -21,7 +21,7 @@ use Rattle.net_base.specs.Keys.{is_among}
 use Rattle.pulse_net.specs.Validity.{Wiring, at, made_once, make_wire, used_once, source_stage, is_gap, with_used, used_in_time, use_wire, use_pins, wire_element, wire_output, wire_inputs, wire_elements, wire_outputs, unwired, check_latency, has_wire, least_unused, close_at, close_wires, wiring_of}
 use Rattle.pulse_net.specs.Wired.{element_makes, makes_of, ArrivesInTime, ArriveInTime, ElementInTime, ElementsInTime, OutletInTime, OutletsInTime, IsWired}
 use Rattle.pulse_net.specs.Laws.{UnbrokenIsWired}
-use Rattle.pulse_net.proofs.Once.{is_among-next, keys-stages, keys-element, keys-inputs, least_unused-none, least_unused-used}
+use Rattle.pulse_net.proofs.Once.{keys-stages, keys-element, keys-inputs, least_unused-none, least_unused-used}
 use Rattle.pulse_net.proofs.Steps.{with_made, IsOnce, WiresInputs, WiresElements, WiresOutlets, wire_inputs-ok, wire_elements-ok, wire_outputs-ok}
 
 -- ---- from the fold

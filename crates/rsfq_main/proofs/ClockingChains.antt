@@ -1,22 +1,17 @@
 -- A plain netlist has low levels and few pins. So its earliest epochs are low too, its stages fit, and its chains are
 -- few and short.
-use Rattle.std.proofs.Common.{◌≡◌, ◌<◌, ◌≤◌, ◌+◌, ◌*◌, ◌/◌, ◌^◌, ◌∙◌, ℕ, [], length, map, get_or, All, ap, arith, length-append}
-use Rattle.std.specs.List.{flat_map}
+use Rattle.std.proofs.Common.{◌<◌, ◌≤◌, ◌*◌, ◌^◌, ℕ, length, get_or, All, arith}
 use Rattle.std.proofs.lemmas.Nat.{mul-le}
-use Rattle.std.proofs.lemmas.List.{length-map, nil_from_length}
 use Rattle.std.proofs.lemmas.List.Elements.{All-weaker}
-use Rattle.gate_net.specs.declared.row.GateRow.{GateRow}
 use Rattle.gate_net.specs.declared.net.GateNet.{GateNet}
-use Rattle.gate_net.specs.Net.{end_drivers}
-use Rattle.gate_net.specs.Entries.{entry_of}
 use Rattle.phase_rule.specs.declared.level.TheConstants.{MAX_PHASES}
-use Rattle.phase_rule.specs.Levels.{largest, levels_of, phases_of}
+use Rattle.phase_rule.specs.Levels.{levels_of, phases_of}
 use Rattle.phase_rule.specs.Stages.{stage_of}
 use Rattle.phase_rule.proofs.CallerLemmas.{length-levels_of, levels-le, ArePhases-levels}
 use Rattle.flow_net.specs.Uses.{uses_of}
 use Rattle.flow_net.specs.Network.{network_of}
-use Rattle.flow_net.specs.Epochs.{dro_count, earliest_gates, earliest_epochs, EarliestEpochsAreBalanced}
-use Rattle.flow_net.proofs.CallerLemmas.{length-uses_of, length-uses_of-le, used_below-le, dro_count-le, earliest_gates-le, earliest_sink-le, earliest_stages-are-levels}
+use Rattle.flow_net.specs.Epochs.{dro_count, earliest_epochs, EarliestEpochsAreBalanced}
+use Rattle.flow_net.proofs.CallerLemmas.{length-uses_of-le, used_below-le, dro_count-le, earliest_gates-le, earliest_sink-le, earliest_sink-unused, length-earliest_gates, earliest_stages-are-levels}
 use Rattle.dro_chains.specs.declared.chain.TheConstants.{MAX_DROS}
 use Rattle.dro_chains.specs.Chains.{CanChain, HasChains}
 use Rattle.rsfq_main.specs.Mapping.{IsMapped}
@@ -25,12 +20,9 @@ module _ (n : ℕ) (net : GateNet) (some : 1 ≤ n) (few : n ≤ MAX_PHASES) (ma
   sink-le : (earliest_epochs n net).sink ≤ 257
   sink-le = omega (arith, earliest_sink-le n net, mapped.few_gates)
 
-  length-earliest_gates : length (earliest_epochs n net).gates ≡ length net.gates
-  length-earliest_gates = length-map (levels_of net) (λ level. level / n) ∙ length-levels_of net
-
   stage-fits : (k : ℕ) → k < length (earliest_epochs n net).gates → stage_of n (get_or (earliest_epochs n net).gates k 0) (get_or (phases_of n (levels_of net)) k 0) < 2 ^ 32
   stage-fits k within =
-      let place : k < length net.gates = omega (arith, length-earliest_gates) in
+      let place : k < length net.gates = omega (arith, length-earliest_gates n net) in
       omega (arith, earliest_stages-are-levels n net k some place, levels-le net k 0 (omega (arith, length-levels_of net)), mapped.few_gates)
 
   latency-fits : n * (earliest_epochs n net).sink < 2 ^ 32
@@ -45,18 +37,10 @@ module _ (n : ℕ) (net : GateNet) (some : 1 ≤ n) (few : n ≤ MAX_PHASES) (ma
       phased = (ArePhases-levels n net some).each;
       few_pins = omega (arith, length-uses_of-le net mapped.formed, mapped.few_gates, mapped.few_outputs);
     };
-    each = length-earliest_gates;
+    each = length-earliest_gates n net;
     stages = stage-fits;
     latency = latency-fits;
   }
-
-  -- without pins no output has a driver, so the sink stands 1 behind the source
-  alone : uses_of net ≡ [] → (earliest_epochs n net).sink ≡ 1
-  alone none =
-      let drivers = flat_map end_drivers net.outputs in
-      let gates = flat_map (λ (row : GateRow). row.pins) net.gates in
-      let empty : drivers ≡ [] = nil_from_length drivers (omega (arith, length-uses_of net, length-append gates drivers, ap length none)) in
-      ap (λ ds. 1 + largest (map (entry_of (earliest_gates n net)) ds)) empty
 
 -- A plain netlist has chains, with phases from levels and the earliest epochs.
 pub has_chains : EarliestEpochsAreBalanced → (n : ℕ) (net : GateNet) → 1 ≤ n → n ≤ MAX_PHASES → IsMapped net → HasChains net (phases_of n (levels_of net)) n (earliest_epochs n net)
@@ -68,7 +52,7 @@ has_chains are_balanced n net some few mapped = record {
   phased = ArePhases-levels n net some;
   balanced = are_balanced n net some mapped.formed;
   latency = omega arith;
-  empty = alone n net some few mapped;
+  empty = earliest_sink-unused n net;
 }
 
 -- A plain netlist never needs too many DROs: it has at most 512 drivers, and a chain has at most 257 DROs.

@@ -9,7 +9,8 @@ use Rattle.std.proofs.lemmas.List.Elements.{All-nil, All-cons}
 use Rattle.std.proofs.lemmas.Bool.{and_parts, not-true}
 use Rattle.gate_net.specs.declared.row.Driver.{Driver}
 use Rattle.gate_net.specs.declared.row.Driver.TheVariants.{Input}
-use Rattle.gate_net.specs.Net.{IsThere, IsEndThere, IsGateNet, bare_net}
+use Rattle.gate_net.specs.Net.{IsThere}
+use Rattle.gate_net.proofs.CallerLemmas.{bare_net-formed}
 use Rattle.rsfq_main.specs.declared.design.Design.{Design}
 use Rattle.net_base.specs.Keys.{is_among}
 use Rattle.rsfq_main.specs.PlainRules.{Names, IsPlain, are_new, are_tables, is_circuit, drivers_of, uses_of}
@@ -58,14 +59,6 @@ inputs-there count place [] few = All-nil (λ (entry : List ℕ × Driver). IsTh
 inputs-there count place (name ∷ inputs) few =
     All-cons (λ (entry : List ℕ × Driver). IsThere count 0 entry.1) (name, Input place) (input_drivers (place + 1) inputs) (omega (arith, few))
     (inputs-there count (place + 1) inputs (omega (arith, few)))
-
-bare_net-formed : (inputs : ℕ) → IsGateNet (bare_net inputs)
-bare_net-formed inputs = record {
-  gates = λ place d within. absurd (omega arith);
-  outputs = All-nil (IsEndThere inputs 0);
-  few_gates = omega arith;
-  few_outputs = omega arith;
-}
 
 -- Before the first table the mapping keeps to what it does behind each table.
 pub sound-inputs : (design : Design) → IsSound design.inputs (inputs_alone design)
