@@ -4,8 +4,8 @@ use Rattle.io_edge.specs.declared.reading.ReadAllFault.{ReadAllFault}
 use Rattle.io_edge.specs.declared.reading.ReadAllFault.TheVariants.{ReadFault, TooLong, NoMemory}
 
 -- what was read, then what is still to come: the whole text, where the source tells it
-abbrev pub text_of : List ℕ → Option (List ℕ) → Option (List ℕ)
-text_of read left = option_map (λ rest. read ++ rest) left
+abbrev pub whole_text : List ℕ → Option (List ℕ) → Option (List ℕ)
+whole_text read left = option_map (λ rest. read ++ rest) left
 
 -- some bytes were taken from the front of the text, but not more than the limit
 abbrev pub LeavesWithin : ℕ → List ℕ → Option (List ℕ) → Type 0

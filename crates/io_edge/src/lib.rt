@@ -17,7 +17,7 @@
 //! A count stands still at 2^64 - 1, and still counts as risen there.
 //!
 //! The definitions begin in `specs/Source.antt`, `specs/Sink.antt` and `specs/Counts.antt`.
-//! The central idea: the bytes read, then those still to come, are always the whole text (`text_of`).
+//! The central idea: the bytes read, then those still to come, are always the whole text (`whole_text`).
 #![tactic(auto)]
 
 mod counts;

@@ -5,7 +5,7 @@
 ghost use Rattle.std.specs.Prelude.{◌≡◌, ◌<◌, ◌≤◌, ◌+◌, ◌-◌, [], length, max, vec_len, vec_capacity, IfOk, OnOk, OnErr, IfSome, IsErrOf};
 ghost use Rattle.io_edge.specs.declared.reading.ReadAllFault.TheVariants.{ReadFault, NoMemory as OutOfMemory};
 ghost use Rattle.io_edge.specs.Counts.{Rose};
-ghost use Rattle.io_edge.specs.ReadAll.{text_of, LeavesOf};
+ghost use Rattle.io_edge.specs.ReadAll.{whole_text, LeavesOf};
 
 use crate::{Failed, NoMemory, Source};
 use std::alloc::Global;
@@ -93,7 +93,7 @@ fn read_piece<S: Source>(src: &mut S, piece: &mut [u8], all: &mut Vec<u8>) -> Re
     requires room { vec_len all.old + length piece.old ≤ vec_capacity all.old }
     ensures within { IfOk result (λ k. k ≤ length piece.old) }
     ensures longer { IfOk result (λ k. length all.new.items ≡ length all.old.items + k) }
-    ensures text { text_of all.new.items (S.left src.new) ≡ text_of all.old.items (S.left src.old) }
+    ensures text { whole_text all.new.items (S.left src.new) ≡ whole_text all.old.items (S.left src.old) }
     ensures at_end { IfOk result (λ k. k ≡ 0 → IfSome (S.left src.new) (λ rest. rest ≡ [])) }
     ensures failed { OnErr result (Rose (S.faults src.old) (S.faults src.new)) }
     ensures unread { OnErr result (all.new.items ≡ all.old.items) }

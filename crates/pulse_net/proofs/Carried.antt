@@ -13,7 +13,7 @@ use Rattle.cell_lib.specs.declared.cell.Cell.{Cell}
 use Rattle.cell_lib.specs.Cell.{cell_value}
 use Rattle.pulse_net.specs.declared.net.Element.{Element}
 use Rattle.pulse_net.specs.declared.net.Element.TheVariants.{Clocked, Split}
-use Rattle.pulse_net.specs.Wires.{Wires, carried, input_wires, element_wires, after_elements, input_stage, cell_stage}
+use Rattle.pulse_net.specs.Wires.{Wires, carried, input_entries, element_wires, after_elements, input_stage, cell_stage}
 use Rattle.pulse_net.specs.Pulses.{Signal, silence, pulsed_within, input_signal, on_clock, window_value, cell_signal, spread}
 use Rattle.pulse_net.specs.RowValues.{input_value, stageless_value}
 use Rattle.pulse_net.proofs.Readings.{Related, none, more, related-append, related-found}
@@ -71,7 +71,7 @@ module _ (n c : ℕ) where
       elements_carry elements _ _ _ (related-append p (element_carries stages values signals p element h.0)) h.1
 
 -- an input pulses at the first tick of the epoch of each row that has it
-pub inputs_carry : (k c : ℕ) (rows : List (List Bool)) (inputs : List (Option ℕ)) (place : ℕ) → Aligned (suc k) c (input_wires input_stage place inputs) (input_wires (input_value (get_or rows c [])) place inputs) (input_wires (input_signal (spread (suc k) rows)) place inputs)
+pub inputs_carry : (k c : ℕ) (rows : List (List Bool)) (inputs : List (Option ℕ)) (place : ℕ) → Aligned (suc k) c (input_entries input_stage place inputs) (input_entries (input_value (get_or rows c [])) place inputs) (input_entries (input_signal (spread (suc k) rows)) place inputs)
 inputs_carry k c rows [] place = none
 inputs_carry k c rows (None ∷ inputs) place = inputs_carry k c rows inputs (place + 1)
 inputs_carry k c rows (Some wire ∷ inputs) place =

@@ -19,7 +19,7 @@ use Rattle.pulse_net.specs.declared.net.Element.{Element}
 use Rattle.pulse_net.specs.declared.net.Element.TheVariants.{Clocked, Split}
 use Rattle.pulse_net.specs.declared.net.PulseNet.{PulseNet}
 use Rattle.pulse_net.specs.Formed.{HasItsPins}
-use Rattle.pulse_net.specs.Wires.{Wires, found, carried, input_wires, element_wires, after_elements, input_stage, cell_stage, stages_of}
+use Rattle.pulse_net.specs.Wires.{Wires, found, carried, input_entries, element_wires, after_elements, input_stage, cell_stage, stages_of}
 use Rattle.pulse_net.specs.Validity.{IsValid}
 use Rattle.pulse_net.specs.Wired.{element_makes, ArriveInTime, ElementInTime, ElementsInTime}
 use Rattle.pulse_net.specs.Unfolding.{Unfolding, driver_of, make_driven, add_gate, pass_dro, dro_driver, nothing_unfolded, unfold_element, unfold_elements, unfold_inputs, unfolding_of}
@@ -162,7 +162,7 @@ module _ (n : ℕ) where
       elements_followed (a ++ element_wires 0 cell_stage a element) (b ++ element_wires 0 cell_depth b element) (unfold_element element so) one elements h.1 pinned.1 (behind_element a element rest distinct)
 
   -- Inputs in order: each stands at stage 0, and so does its wire.
-  inputs_followed : (a b : Wires ℕ) (so : Unfolding) → Followed n a b so → (used : List (Option ℕ)) (place : ℕ) (rest : List ℕ) → IsDistinct nat_eq (keys_of a ++ (flat_map option_to_list used ++ rest)) → Followed n (a ++ input_wires input_stage place used) (b ++ input_wires input_depth place used) (unfold_inputs place used so)
+  inputs_followed : (a b : Wires ℕ) (so : Unfolding) → Followed n a b so → (used : List (Option ℕ)) (place : ℕ) (rest : List ℕ) → IsDistinct nat_eq (keys_of a ++ (flat_map option_to_list used ++ rest)) → Followed n (a ++ input_entries input_stage place used) (b ++ input_entries input_depth place used) (unfold_inputs place used so)
   inputs_followed a b so t [] place rest distinct =
       let first = subst (λ (x : Wires ℕ). Followed n x b so) (sym (append-nil a)) t in
       subst (λ (y : Wires ℕ). Followed n (a ++ []) y so) (sym (append-nil b)) first
@@ -173,8 +173,8 @@ module _ (n : ℕ) where
       let one = make_followed a b so t wire 0 0 (Input place) (new_wire a wire more distinct) source in
       let so' : Unfolding = unfold_inputs (place + 1) used (make_driven wire (Input place) so) in
       let all = inputs_followed (a ++ (wire, 0) ∷ []) (b ++ (wire, 0) ∷ []) (make_driven wire (Input place) so) one used (place + 1) rest (behind_wire a wire 0 more distinct) in
-      let grouped = subst (λ (x : Wires ℕ). Followed n x ((b ++ (wire, 0) ∷ []) ++ input_wires input_depth (place + 1) used) so') (append_assoc a ((wire, 0) ∷ []) (input_wires input_stage (place + 1) used)) all in
-      subst (λ (y : Wires ℕ). Followed n (a ++ (wire, 0) ∷ input_wires input_stage (place + 1) used) y so') (append_assoc b ((wire, 0) ∷ []) (input_wires input_depth (place + 1) used)) grouped
+      let grouped = subst (λ (x : Wires ℕ). Followed n x ((b ++ (wire, 0) ∷ []) ++ input_entries input_depth (place + 1) used) so') (append_assoc a ((wire, 0) ∷ []) (input_entries input_stage (place + 1) used)) all in
+      subst (λ (y : Wires ℕ). Followed n (a ++ (wire, 0) ∷ input_entries input_stage (place + 1) used) y so') (append_assoc b ((wire, 0) ∷ []) (input_entries input_depth (place + 1) used)) grouped
 
 -- a valid netlist, unfolded
 followed : (net : PulseNet) → IsValid net → Followed net.phases (stages_of net) (depths_of net) (unfolding_of net)

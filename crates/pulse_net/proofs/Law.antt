@@ -8,7 +8,7 @@ use Rattle.pulse_net.specs.declared.net.Outlet.{Outlet}
 use Rattle.pulse_net.specs.declared.net.Outlet.TheVariants.{Zero, One, Wire}
 use Rattle.pulse_net.specs.declared.net.PulseNet.{PulseNet}
 use Rattle.pulse_net.specs.Formed.{outlet_at}
-use Rattle.pulse_net.specs.Wires.{Wires, carried, input_wires, after_elements, input_stage, cell_stage, stages_of}
+use Rattle.pulse_net.specs.Wires.{Wires, carried, input_entries, after_elements, input_stage, cell_stage, stages_of}
 use Rattle.pulse_net.specs.Validity.{IsValid}
 use Rattle.pulse_net.specs.Pulses.{Signal, silence, pulsed_within, signals_of, outlet_signal, spread, input_signal, cell_signal}
 use Rattle.pulse_net.specs.RowValues.{row_values, outlet_value, input_value, stageless_value}
@@ -20,7 +20,7 @@ use Rattle.pulse_net.proofs.Readings.{related-found}
 use Rattle.pulse_net.proofs.Carried.{Aligned, elements_carry, inputs_carry}
 
 -- each wire carries its row value, where the sources of all elements are made in time
-carry : (n : ℕ) → 1 ≤ n → (rows : List (List Bool)) (c : ℕ) (inputs : List (Option ℕ)) (elements : List Element) → ElementsInTime n (input_wires input_stage 0 inputs) elements → Aligned n c (after_elements 0 cell_stage (input_wires input_stage 0 inputs) elements) (after_elements false stageless_value (input_wires (input_value (get_or rows c [])) 0 inputs) elements) (after_elements silence (cell_signal n) (input_wires (input_signal (spread n rows)) 0 inputs) elements)
+carry : (n : ℕ) → 1 ≤ n → (rows : List (List Bool)) (c : ℕ) (inputs : List (Option ℕ)) (elements : List Element) → ElementsInTime n (input_entries input_stage 0 inputs) elements → Aligned n c (after_elements 0 cell_stage (input_entries input_stage 0 inputs) elements) (after_elements false stageless_value (input_entries (input_value (get_or rows c [])) 0 inputs) elements) (after_elements silence (cell_signal n) (input_entries (input_signal (spread n rows)) 0 inputs) elements)
 carry zero some rows c inputs elements h = absurd (omega arith)
 carry (suc k) some rows c inputs elements h = elements_carry (suc k) c elements _ _ _ (inputs_carry k c rows inputs 0) h
 

@@ -10,7 +10,7 @@ use Rattle.net_base.proofs.CallerLemmas.{lookup-absent, is_among-next}
 use Rattle.pulse_net.specs.declared.net.Element.{Element}
 use Rattle.pulse_net.specs.declared.net.Element.TheVariants.{Clocked, Split}
 use Rattle.pulse_net.specs.declared.net.PulseNet.{PulseNet}
-use Rattle.pulse_net.specs.Wires.{Wires, found, input_wires, element_wires, after_elements, input_stage, cell_stage, stages_of}
+use Rattle.pulse_net.specs.Wires.{Wires, found, input_entries, element_wires, after_elements, input_stage, cell_stage, stages_of}
 use Rattle.net_base.specs.Keys.{is_among}
 use Rattle.pulse_net.specs.Validity.{lesser, with_unused, least_unused}
 use Rattle.pulse_net.specs.Wired.{element_makes, makes_of}
@@ -19,7 +19,7 @@ pub keys-element : (made : Wires ℕ) (element : Element) → keys_of (element_w
 keys-element made (Clocked cell stage pins out) = refl
 keys-element made (Split from left right) = refl
 
-pub keys-inputs : (inputs : List (Option ℕ)) (place : ℕ) → keys_of (input_wires input_stage place inputs) ≡ flat_map option_to_list inputs
+pub keys-inputs : (inputs : List (Option ℕ)) (place : ℕ) → keys_of (input_entries input_stage place inputs) ≡ flat_map option_to_list inputs
 keys-inputs [] place = refl
 keys-inputs (None ∷ inputs) place = keys-inputs inputs (place + 1)
 keys-inputs (Some wire ∷ inputs) place = ap (λ l. wire ∷ l) (keys-inputs inputs (place + 1))
@@ -35,7 +35,7 @@ keys-elements (element ∷ elements) made =
 -- the wires that have a stage are those that are made, in order
 pub keys-stages : (net : PulseNet) → keys_of (stages_of net) ≡ makes_of net
 keys-stages net =
-    keys-elements net.elements (input_wires input_stage 0 net.inputs) ∙ ap (λ k. k ++ flat_map element_makes net.elements) (keys-inputs net.inputs 0)
+    keys-elements net.elements (input_entries input_stage 0 net.inputs) ∙ ap (λ k. k ++ flat_map element_makes net.elements) (keys-inputs net.inputs 0)
 
 -- the next wire is new, where no wire is made twice
 pub new_wire : (a : Wires ℕ) (wire : ℕ) (rest : List ℕ) → IsDistinct nat_eq (keys_of a ++ wire ∷ rest) → found a wire ≡ None

@@ -17,7 +17,7 @@ use Rattle.pulse_net.specs.declared.net.Outlet.TheVariants.{Zero, One, Wire}
 use Rattle.pulse_net.specs.declared.fault.Place.{Place}
 use Rattle.pulse_net.specs.declared.fault.Place.TheVariants.{Input, Element as AtElement, Output}
 use Rattle.pulse_net.specs.declared.fault.Wrong.{Wrong}
-use Rattle.pulse_net.specs.Wires.{found, carried, input_wires, element_wires, after_elements, input_stage, cell_stage, element_uses, outlet_uses}
+use Rattle.pulse_net.specs.Wires.{found, carried, input_entries, element_wires, after_elements, input_stage, cell_stage, element_uses, outlet_uses}
 use Rattle.pulse_net.specs.Wired.{IsInTime, ArriveInTime, ElementInTime, ElementsInTime, OutletInTime, OutletsInTime}
 use Rattle.net_base.specs.Keys.{is_among}
 use Rattle.pulse_net.specs.Validity.{Wiring, at, made_once, make_wire, used_once, source_stage, is_gap, with_used, used_in_time, use_wire, use_pins, wire_element, wire_elements, wire_output, wire_outputs, wire_inputs}
@@ -226,7 +226,7 @@ wire_outputs-ok phases latency place (outlet ∷ outlets) wiring after h =
     }
 
 pub record WiresInputs (place : ℕ) (inputs : List (Option ℕ)) (wiring after : Wiring) : Type 0 where
-  pub made : after.made ≡ wiring.made ++ input_wires input_stage place inputs
+  pub made : after.made ≡ wiring.made ++ input_entries input_stage place inputs
   pub used : after.used ≡ wiring.used
   pub once : IsOnce wiring → IsOnce after
 
@@ -240,7 +240,7 @@ wire_inputs-ok place (Some wire ∷ inputs) wiring after h =
     let makes = make_wire-ok wiring wire 0 s.0 (at-ok (Input place) (make_wire wire 0 wiring) s.0 s.1) in
     let rest = wire_inputs-ok (place + 1) inputs s.0 after s.2 in
     record {
-      made = rest.made ∙ ap (λ (w : Wiring). w.made ++ input_wires input_stage (place + 1) inputs) makes.gives ∙ append_assoc wiring.made ((wire, 0) ∷ []) (input_wires input_stage (place + 1) inputs);
+      made = rest.made ∙ ap (λ (w : Wiring). w.made ++ input_entries input_stage (place + 1) inputs) makes.gives ∙ append_assoc wiring.made ((wire, 0) ∷ []) (input_entries input_stage (place + 1) inputs);
       used = rest.used ∙ ap (λ (w : Wiring). w.used) makes.gives;
       once = λ o. rest.once (makes.once o);
     }

@@ -16,7 +16,7 @@ use Rattle.pulse_net.specs.declared.net.Outlet.{Outlet}
 use Rattle.pulse_net.specs.declared.net.Outlet.TheVariants.{Zero, One, Wire}
 use Rattle.pulse_net.specs.declared.net.PulseNet.{PulseNet}
 use Rattle.pulse_net.specs.declared.fault.Place.TheVariants.{Input, Element as AtElement, Output}
-use Rattle.pulse_net.specs.Wires.{Wires, found, carried, input_wires, element_wires, after_elements, input_stage, cell_stage, stages_of, uses_of, element_uses, outlet_uses}
+use Rattle.pulse_net.specs.Wires.{Wires, found, carried, input_entries, element_wires, after_elements, input_stage, cell_stage, stages_of, used_wires, element_uses, outlet_uses}
 use Rattle.net_base.specs.Keys.{is_among}
 use Rattle.pulse_net.specs.Validity.{Wiring, at, made_once, make_wire, used_once, source_stage, is_gap, with_used, used_in_time, use_wire, use_pins, wire_element, wire_output, wire_inputs, wire_elements, wire_outputs, unwired, check_latency, has_wire, least_unused, close_at, close_wires, wiring_of}
 use Rattle.pulse_net.specs.Wired.{element_makes, makes_of, ArrivesInTime, ArriveInTime, ElementInTime, ElementsInTime, OutletInTime, OutletsInTime, IsWired}
@@ -82,7 +82,7 @@ module _ (net : PulseNet) (p : Passes net) where
   elements-used : p.elements.used ≡ flat_map element_uses net.elements
   elements-used = p.by_elements.used ∙ ap (λ u. u ++ flat_map element_uses net.elements) p.by_inputs.used
 
-  all-used : p.outputs.used ≡ uses_of net
+  all-used : p.outputs.used ≡ used_wires net
   all-used = p.by_outputs.used ∙ ap (λ u. u ++ flat_map outlet_uses net.outputs) elements-used
 
   all-once : IsOnce p.outputs
@@ -189,7 +189,7 @@ wire_outputs-fine phases latency place (outlet ∷ outlets) wiring h u =
     ∙ wire_outputs-fine phases latency (place + 1) outlets next h.1 (subst (IsDistinct nat_eq) (sym (append_assoc wiring.used (outlet_uses outlet) uses)) u)
     ∙ ap (λ u. Ok (record { made = wiring.made; used = u })) (append_assoc wiring.used (outlet_uses outlet) uses)
 
-wire_inputs-fine : (place : ℕ) (inputs : List (Option ℕ)) (to_make : List ℕ) (wiring : Wiring) → IsDistinct nat_eq (keys_of wiring.made ++ (flat_map option_to_list inputs ++ to_make)) → wire_inputs place inputs wiring ≡ Ok (record { made = wiring.made ++ input_wires input_stage place inputs; used = wiring.used })
+wire_inputs-fine : (place : ℕ) (inputs : List (Option ℕ)) (to_make : List ℕ) (wiring : Wiring) → IsDistinct nat_eq (keys_of wiring.made ++ (flat_map option_to_list inputs ++ to_make)) → wire_inputs place inputs wiring ≡ Ok (record { made = wiring.made ++ input_entries input_stage place inputs; used = wiring.used })
 wire_inputs-fine place [] to_make wiring m =
     ap (λ made. Ok (record { made = made; used = wiring.used })) (sym (append-nil wiring.made))
 wire_inputs-fine place (None ∷ inputs) to_make wiring m = wire_inputs-fine (place + 1) inputs to_make wiring m
@@ -198,18 +198,18 @@ wire_inputs-fine place (Some wire ∷ inputs) to_make wiring m =
     let m' = subst (λ k. IsDistinct nat_eq (k ++ rest)) (sym (keys-made wiring.made wire 0)) (one-more (keys_of wiring.made) wire rest m) in
     ap (λ r. at (Input place) r >>= wire_inputs (place + 1) inputs) (make_wire-fine wiring wire 0 (is_among-next (keys_of wiring.made) rest wire m))
     ∙ wire_inputs-fine (place + 1) inputs to_make (with_made wiring wire 0) m'
-    ∙ ap (λ made. Ok (record { made = made; used = wiring.used })) (append_assoc wiring.made ((wire, 0) ∷ []) (input_wires input_stage (place + 1) inputs))
+    ∙ ap (λ made. Ok (record { made = made; used = wiring.used })) (append_assoc wiring.made ((wire, 0) ∷ []) (input_entries input_stage (place + 1) inputs))
 
 module _ (net : PulseNet) (h : IsWired net) where
   -- the wirings that the fold goes through
   with_inputs : Wiring
-  with_inputs = record { made = input_wires input_stage 0 net.inputs; used = [] }
+  with_inputs = record { made = input_entries input_stage 0 net.inputs; used = [] }
 
   with_elements : Wiring
   with_elements = record { made = stages_of net; used = flat_map element_uses net.elements }
 
   with_outputs : Wiring
-  with_outputs = record { made = stages_of net; used = uses_of net }
+  with_outputs = record { made = stages_of net; used = used_wires net }
 
   inputs-fine : wire_inputs 0 net.inputs unwired ≡ Ok with_inputs
   unfolding with_inputs
@@ -228,7 +228,7 @@ module _ (net : PulseNet) (h : IsWired net) where
   close-fine : close_wires with_outputs ≡ Ok with_outputs
   unfolding with_outputs
   close-fine =
-      ap (close_at with_outputs) (least_unused-used (uses_of net) (keys_of (stages_of net)) (λ wire among. h.all_used wire (ap (λ m. is_among nat_eq wire m) (sym (keys-stages net)) ∙ among)))
+      ap (close_at with_outputs) (least_unused-used (used_wires net) (keys_of (stages_of net)) (λ wire among. h.all_used wire (ap (λ m. is_among nat_eq wire m) (sym (keys-stages net)) ∙ among)))
 
   wiring_of-wired : wiring_of net ≡ Ok with_outputs
   wiring_of-wired =

@@ -17,7 +17,7 @@ use Rattle.gate_net.specs.Values.{gate_value, values_by}
 use Rattle.pulse_net.specs.declared.net.Element.{Element}
 use Rattle.pulse_net.specs.declared.net.Element.TheVariants.{Clocked, Split}
 use Rattle.pulse_net.specs.Formed.{HasItsPins}
-use Rattle.pulse_net.specs.Wires.{Wires, found, carried, input_wires, element_wires, after_elements, input_stage, cell_stage}
+use Rattle.pulse_net.specs.Wires.{Wires, found, carried, input_entries, element_wires, after_elements, input_stage, cell_stage}
 use Rattle.pulse_net.specs.Wired.{element_makes, ArriveInTime, ElementInTime, ElementsInTime}
 use Rattle.pulse_net.specs.RowValues.{input_value, stageless_value}
 use Rattle.pulse_net.specs.Unfolding.{Unfolding, driver_of, make_driven, add_gate, pass_dro, dro_driver, unfold_element, unfold_elements, unfold_inputs, gate_wire}
@@ -97,7 +97,7 @@ module _ (inputs : ℕ) (bits : List Bool) where
       subst (λ (o : List ℕ). Traced inputs bits (after_elements 0 cell_stage a' elements) (after_elements false stageless_value b' elements) (unfold_elements elements (unfold_element element so)) o) (append_assoc outs (gate_wire element) (flat_map gate_wire elements)) all
 
   -- Inputs in order.
-  pub inputs_traced : (a : Wires ℕ) (b : Wires Bool) (so : Unfolding) (outs : List ℕ) → Traced inputs bits a b so outs → (used : List (Option ℕ)) (place : ℕ) → place + length used ≤ inputs → (rest : List ℕ) → IsDistinct nat_eq (keys_of a ++ (flat_map option_to_list used ++ rest)) → Traced inputs bits (a ++ input_wires input_stage place used) (b ++ input_wires (input_value bits) place used) (unfold_inputs place used so) outs
+  pub inputs_traced : (a : Wires ℕ) (b : Wires Bool) (so : Unfolding) (outs : List ℕ) → Traced inputs bits a b so outs → (used : List (Option ℕ)) (place : ℕ) → place + length used ≤ inputs → (rest : List ℕ) → IsDistinct nat_eq (keys_of a ++ (flat_map option_to_list used ++ rest)) → Traced inputs bits (a ++ input_entries input_stage place used) (b ++ input_entries (input_value bits) place used) (unfold_inputs place used so) outs
   inputs_traced a b so outs t [] place few rest distinct =
       let first = subst (λ (x : Wires ℕ). Traced inputs bits x b so outs) (sym (append-nil a)) t in
       subst (λ (y : Wires Bool). Traced inputs bits (a ++ []) y so outs) (sym (append-nil b)) first
@@ -109,5 +109,5 @@ module _ (inputs : ℕ) (bits : List Bool) where
       let one = make_traced a b so outs t wire 0 v (Input place) (new_wire a wire more distinct) source in
       let so' : Unfolding = unfold_inputs (place + 1) used (make_driven wire (Input place) so) in
       let all = inputs_traced (a ++ (wire, 0) ∷ []) (b ++ (wire, v) ∷ []) (make_driven wire (Input place) so) outs one used (place + 1) (omega arith) rest (behind_wire a wire 0 more distinct) in
-      let grouped = subst (λ (x : Wires ℕ). Traced inputs bits x ((b ++ (wire, v) ∷ []) ++ input_wires (input_value bits) (place + 1) used) so' outs) (append_assoc a ((wire, 0) ∷ []) (input_wires input_stage (place + 1) used)) all in
-      subst (λ (y : Wires Bool). Traced inputs bits (a ++ (wire, 0) ∷ input_wires input_stage (place + 1) used) y so' outs) (append_assoc b ((wire, v) ∷ []) (input_wires (input_value bits) (place + 1) used)) grouped
+      let grouped = subst (λ (x : Wires ℕ). Traced inputs bits x ((b ++ (wire, v) ∷ []) ++ input_entries (input_value bits) (place + 1) used) so' outs) (append_assoc a ((wire, 0) ∷ []) (input_entries input_stage (place + 1) used)) all in
+      subst (λ (y : Wires Bool). Traced inputs bits (a ++ (wire, 0) ∷ input_entries input_stage (place + 1) used) y so' outs) (append_assoc b ((wire, v) ∷ []) (input_entries (input_value bits) (place + 1) used)) grouped

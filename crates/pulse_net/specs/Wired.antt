@@ -6,7 +6,7 @@ use Rattle.pulse_net.specs.declared.net.Element.TheVariants.{Clocked, Split}
 use Rattle.pulse_net.specs.declared.net.Outlet.{Outlet}
 use Rattle.pulse_net.specs.declared.net.Outlet.TheVariants.{Zero, One, Wire}
 use Rattle.pulse_net.specs.declared.net.PulseNet.{PulseNet}
-use Rattle.pulse_net.specs.Wires.{Wires, found, input_wires, element_wires, input_stage, cell_stage, stages_of, uses_of}
+use Rattle.pulse_net.specs.Wires.{Wires, found, input_entries, element_wires, input_stage, cell_stage, stages_of, used_wires}
 use Rattle.net_base.specs.Keys.{is_among}
 use Rattle.pulse_net.specs.Validity.{has_wire}
 
@@ -57,9 +57,9 @@ OutletsInTime phases user made (outlet ∷ outlets) = OutletInTime phases user m
 -- A netlist is wired: each element's sources are made before it and read in time, and so are the outputs, at stage n * E;
 -- no wire is made twice, none is used twice, and each that is made is used; and a netlist that reads no wire has latency 1.
 pub record IsWired (net : PulseNet) : Type 0 where
-  pub elements : ElementsInTime net.phases (input_wires input_stage 0 net.inputs) net.elements
+  pub elements : ElementsInTime net.phases (input_entries input_stage 0 net.inputs) net.elements
   pub outputs : OutletsInTime net.phases (net.phases * net.latency) (stages_of net) net.outputs
   pub made_once : IsDistinct nat_eq (makes_of net)
-  pub used_once : IsDistinct nat_eq (uses_of net)
-  pub all_used : (wire : ℕ) → IsTrue (is_among nat_eq wire (makes_of net)) → IsTrue (is_among nat_eq wire (uses_of net))
+  pub used_once : IsDistinct nat_eq (used_wires net)
+  pub all_used : (wire : ℕ) → IsTrue (is_among nat_eq wire (makes_of net)) → IsTrue (is_among nat_eq wire (used_wires net))
   pub latency : IsTrue (net.latency == 1 || list_any has_wire net.outputs)

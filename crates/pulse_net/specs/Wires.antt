@@ -21,10 +21,10 @@ abbrev pub carried : {A : Type 0} → A → Wires A → ℕ → A
 carried absent wires wire = unwrap_or (found wires wire) absent
 
 -- the wires of the inputs from a place on: each used input makes its wire
-abbrev pub input_wires : {A : Type 0} → (ℕ → A) → ℕ → List (Option ℕ) → Wires A
-input_wires at_input place [] = []
-input_wires at_input place (None ∷ inputs) = input_wires at_input (place + 1) inputs
-input_wires at_input place (Some wire ∷ inputs) = (wire, at_input place) ∷ input_wires at_input (place + 1) inputs
+abbrev pub input_entries : {A : Type 0} → (ℕ → A) → ℕ → List (Option ℕ) → Wires A
+input_entries at_input place [] = []
+input_entries at_input place (None ∷ inputs) = input_entries at_input (place + 1) inputs
+input_entries at_input place (Some wire ∷ inputs) = (wire, at_input place) ∷ input_entries at_input (place + 1) inputs
 
 -- the wires that an element makes: a clocked cell makes one by what its pins carry, a splitter hands its source on to both
 abbrev pub element_wires : {A : Type 0} → A → (Cell → ℕ → List A → A) → Wires A → Element → Wires A
@@ -43,7 +43,7 @@ after_elements absent at_cell wires (element ∷ elements) =
 -- cell makes at a stage of what its pins carry.
 abbrev pub wires_of : {A : Type 0} → A → (ℕ → A) → (Cell → ℕ → List A → A) → PulseNet → Wires A
 wires_of absent at_input at_cell net =
-    after_elements absent at_cell (input_wires at_input 0 net.inputs) net.elements
+    after_elements absent at_cell (input_entries at_input 0 net.inputs) net.elements
 
 -- an input's stage, and a cell's
 abbrev pub input_stage : ℕ → ℕ
@@ -68,5 +68,5 @@ outlet_uses One = []
 outlet_uses (Wire wire) = wire ∷ []
 
 -- the wires that are used by elements and outputs, in order
-abbrev pub uses_of : PulseNet → List ℕ
-uses_of net = flat_map element_uses net.elements ++ flat_map outlet_uses net.outputs
+abbrev pub used_wires : PulseNet → List ℕ
+used_wires net = flat_map element_uses net.elements ++ flat_map outlet_uses net.outputs

@@ -96,7 +96,7 @@ impl Trace {
             let driver = dro_driver(&self.wires, pins);
             self.pass_dro(out, driver)
         } else {
-            let drivers = drivers_of(alloc, &self.wires, pins)?;
+            let drivers = traced_drivers(alloc, &self.wires, pins)?;
             self.add_gate(cell, stage, out, drivers)
         }
     }
@@ -172,7 +172,7 @@ fn driver_of(wires: &IndexMap<u32, Driver>, wire: u32) -> Driver
 }
 
 /// The drivers of pins, from the left.
-fn drivers_of(
+fn traced_drivers(
     alloc: Global,
     wires: &IndexMap<u32, Driver>,
     pins: &[u32],

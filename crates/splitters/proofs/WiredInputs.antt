@@ -10,7 +10,7 @@ use Rattle.gate_net.specs.Net.{pin_drivers}
 use Rattle.gate_net.proofs.CallerLemmas.{same_driver-decides}
 use Rattle.flow_net.specs.Uses.{uses_of, is_used}
 use Rattle.flow_net.proofs.CallerLemmas.{is_used-uses_of}
-use Rattle.pulse_net.specs.Wires.{Wires, found, input_stage, cell_stage, input_wires as made_inputs}
+use Rattle.pulse_net.specs.Wires.{Wires, found, input_stage, cell_stage, input_entries}
 use Rattle.pulse_net.proofs.CallerLemmas.{after_elements-found}
 use Rattle.dro_chains.specs.declared.chain.Chained.{Chained}
 use Rattle.splitters.specs.Elements.{Layout, with_chain, input_wires, wire_count, with_inputs}
@@ -62,23 +62,23 @@ length-input_wires chained input next zero = refl
 length-input_wires chained input next (suc more) = ap suc (length-input_wires chained (input + 1) (next + cond (is_used input (uses_of chained.gates)) 1 0) more)
 
 -- a wire of an input is found at stage 0, and no other
-pub found-input : (wires : List (Option ℕ)) (place wire : ℕ) → 1 ≤ times wire (flat_map option_to_list wires) → found (made_inputs input_stage place wires) wire ≡ Some 0
+pub found-input : (wires : List (Option ℕ)) (place wire : ℕ) → 1 ≤ times wire (flat_map option_to_list wires) → found (input_entries input_stage place wires) wire ≡ Some 0
 found-input [] place wire h = absurd (omega arith)
 found-input (None ∷ wires) place wire h = found-input wires (place + 1) wire h
 found-input (Some one ∷ wires) place wire h = by (nat_eq wire one) refl (found-input wires (place + 1) wire)
   where
-    by : (here : Bool) → nat_eq wire one ≡ here → (1 ≤ times wire (flat_map option_to_list wires) → found (made_inputs input_stage (place + 1) wires) wire ≡ Some 0) →
-        cond here (Some 0) (found (made_inputs input_stage (place + 1) wires) wire) ≡ Some 0
+    by : (here : Bool) → nat_eq wire one ≡ here → (1 ≤ times wire (flat_map option_to_list wires) → found (input_entries input_stage (place + 1) wires) wire ≡ Some 0) →
+        cond here (Some 0) (found (input_entries input_stage (place + 1) wires) wire) ≡ Some 0
     by true e rest = refl
     by false e rest = let o = once-other wire one e in rest (omega (arith, o, h))
 
-pub found-no_input : (wires : List (Option ℕ)) (place wire : ℕ) → times wire (flat_map option_to_list wires) ≡ 0 → found (made_inputs input_stage place wires) wire ≡ None
+pub found-no_input : (wires : List (Option ℕ)) (place wire : ℕ) → times wire (flat_map option_to_list wires) ≡ 0 → found (input_entries input_stage place wires) wire ≡ None
 found-no_input [] place wire h = refl
 found-no_input (None ∷ wires) place wire h = found-no_input wires (place + 1) wire h
 found-no_input (Some one ∷ wires) place wire h = by (nat_eq wire one) refl (found-no_input wires (place + 1) wire)
   where
-    by : (here : Bool) → nat_eq wire one ≡ here → (times wire (flat_map option_to_list wires) ≡ 0 → found (made_inputs input_stage (place + 1) wires) wire ≡ None) →
-        cond here (Some 0) (found (made_inputs input_stage (place + 1) wires) wire) ≡ None
+    by : (here : Bool) → nat_eq wire one ≡ here → (times wire (flat_map option_to_list wires) ≡ 0 → found (input_entries input_stage (place + 1) wires) wire ≡ None) →
+        cond here (Some 0) (found (input_entries input_stage (place + 1) wires) wire) ≡ None
     by true e rest = let o = once-same wire one e in absurd (omega (arith, o, h))
     by false e rest = let o = once-other wire one e in rest (omega (arith, o, h))
 

@@ -15,7 +15,7 @@ use Rattle.gate_net.specs.Net.{IsThere, IsEndThere, IsGate, AreGates, pin_driver
 use Rattle.gate_net.proofs.CallerLemmas.{All-end_drivers, pin_drivers-there}
 use Rattle.pulse_net.specs.declared.net.Names.{Names}
 use Rattle.pulse_net.specs.Formed.{HasItsPins}
-use Rattle.pulse_net.specs.Wires.{Wires, element_uses, outlet_uses, input_stage, uses_of, input_wires as made_inputs}
+use Rattle.pulse_net.specs.Wires.{Wires, element_uses, outlet_uses, input_stage, used_wires, input_entries}
 use Rattle.pulse_net.specs.Wired.{makes_of, OutletsInTime, IsWired}
 use Rattle.pulse_net.specs.Validity.{has_wire}
 use Rattle.pulse_net.proofs.CallerLemmas.{unbroken}
@@ -129,7 +129,7 @@ latency-one latency false one = or_left (latency == 1) false (ap (λ n. nat_eq n
 
 -- nothing is laid out yet, and the inputs' wires wait
 Stands-empty : (chained : Chained) →
-    Stands chained.n (wire_count (inputs_of chained)) (made_inputs input_stage 0 (inputs_of chained)) (tap_stage chained) chained.needs 0 (pin_drivers chained.gates) (by_driver (before_input 0))
+    Stands chained.n (wire_count (inputs_of chained)) (input_entries input_stage 0 (inputs_of chained)) (tap_stage chained) chained.needs 0 (pin_drivers chained.gates) (by_driver (before_input 0))
     (λ w. times w (flat_map option_to_list (inputs_of chained))) (empty_layout chained)
 Stands-empty chained =
     let wires = inputs_of chained in
@@ -149,11 +149,11 @@ Stands-empty chained =
         fresh = λ w high. found-no_input wires 0 w (ap (times w) made ∙ times-run_out w 0 first (omega arith));
         balance = λ w. let e = ap (times w) made in let f = ap (times w) nothing in omega (arith, e, f);
       };
-      staged = AreStaged-none (made_inputs input_stage 0 wires) (tap_stage chained) marks chained.needs taken 0 (pin_drivers chained.gates) (λ driver need. before_input-none driver);
+      staged = AreStaged-none (input_entries input_stage 0 wires) (tap_stage chained) marks chained.needs taken 0 (pin_drivers chained.gates) (λ driver need. before_input-none driver);
       room = omega (arith, many);
     }
 
-inputs-found : (wires : List (Option ℕ)) (some : List ℕ) → ((wire : ℕ) → 1 ≤ times wire some → 1 ≤ times wire (flat_map option_to_list wires)) → AreFound (made_inputs input_stage 0 wires) 0 some
+inputs-found : (wires : List (Option ℕ)) (some : List ℕ) → ((wire : ℕ) → 1 ≤ times wire some → 1 ≤ times wire (flat_map option_to_list wires)) → AreFound (input_entries input_stage 0 wires) 0 some
 inputs-found wires [] within = tt
 inputs-found wires (wire ∷ some) within =
     let one = once-same wire wire (nat_eq_equiv.refl wire) in
@@ -161,7 +161,7 @@ inputs-found wires (wire ∷ some) within =
 
 -- Behind the last gate the pins of the outputs wait, and no other wire.
 Stands-layout : (chained : Chained) → KeepsTime chained →
-    Stands chained.n (wire_count (inputs_of chained)) (made_inputs input_stage 0 (inputs_of chained)) (tap_stage chained) chained.needs (gate_pins chained.gates.gates) (flat_map end_drivers chained.gates.outputs)
+    Stands chained.n (wire_count (inputs_of chained)) (input_entries input_stage 0 (inputs_of chained)) (tap_stage chained) chained.needs (gate_pins chained.gates.gates) (flat_map end_drivers chained.gates.outputs)
     (by_driver (before_gate (length chained.gates.gates))) (λ w. 0) (layout_of chained)
 Stands-layout chained timed =
     let n = chained.n in
@@ -171,7 +171,7 @@ Stands-layout chained timed =
     let all = pin_drivers chained.gates in
     let wires = inputs_of chained in
     let first = wire_count wires in
-    let start = made_inputs input_stage 0 wires in
+    let start = input_entries input_stage 0 wires in
     let stage = tap_stage chained in
     let gates : AreGatesFrom inputs 0 rows = gates-all inputs rows timed.formed.gates in
     let laid_inputs = Stands-inputs chained first start 0 0 inputs (empty_layout chained) timed.some_phase (inputs-found wires (flat_map option_to_list wires) (λ w h. h)) (Stands-empty chained) in
@@ -193,7 +193,7 @@ makes-run chained names timed =
     let z : 0 + first ≡ first = omega arith in
     (λ i. input_wires-run chained 0 0 chained.gates.inputs i ++ end.makes i) ∙ sym (run-split 0 first first end.count z) ∙ ap (run 0) end.reaches
 
-uses-balance : (chained : Chained) (names : Names) → KeepsTime chained → (w : ℕ) → times w (uses_of (elements_of chained names)) ≡ times w (run 0 (layout_of chained).next)
+uses-balance : (chained : Chained) (names : Names) → KeepsTime chained → (w : ℕ) → times w (used_wires (elements_of chained names)) ≡ times w (run 0 (layout_of chained).next)
 uses-balance chained names timed w =
     let end = Stands-layout chained timed in
     let layout = layout_of chained in
@@ -220,7 +220,7 @@ IsWired-layout chained names timed =
     let ends = chained.gates.outputs in
     let outs = flat_map end_drivers ends in
     let inputs = chained.gates.inputs in
-    let start = made_inputs input_stage 0 (inputs_of chained) in
+    let start = input_entries input_stage 0 (inputs_of chained) in
     let made = makes-run chained names timed in
     let used = uses-balance chained names timed in
     let gates : AreGatesFrom inputs 0 rows = gates-all inputs rows timed.formed.gates in
@@ -229,9 +229,9 @@ IsWired-layout chained names timed =
       outputs = outlets-timed chained (after start layout.elements) (before_gate (length rows)) layout.taken (chained.n * chained.latency) (gate_pins rows) ends
           (ends-reached inputs (length rows) ends timed.formed.outputs) timed.outputs end.staged;
       made_once = distinct-once (makes_of (elements_of chained names)) (λ w. let e = ap (times w) made in let o = times-run_once w 0 layout.next in omega (arith, e, o));
-      used_once = distinct-once (uses_of (elements_of chained names)) (λ w. let e = used w in let o = times-run_once w 0 layout.next in omega (arith, e, o));
+      used_once = distinct-once (used_wires (elements_of chained names)) (λ w. let e = used w in let o = times-run_once w 0 layout.next in omega (arith, e, o));
       all_used = λ w h. let m = among-times (makes_of (elements_of chained names)) w h in let e = ap (times w) made in let f = used w in
-          times-among (uses_of (elements_of chained names)) w (omega (arith, m, e, f));
+          times-among (used_wires (elements_of chained names)) w (omega (arith, m, e, f));
       latency = latency-one chained.latency (list_any has_wire (outlets layout.taken (gate_pins rows) ends))
           (λ none. let no_outs = outlets-some layout.taken (gate_pins rows) ends none in
           let no_rows = no-gates inputs chained.needs rows outs gates no_outs (λ k low. tap_count-gate chained k (timed.used k low)) in
