@@ -1,6 +1,6 @@
 -- A sink into memory, as its caller sees it.
 use Rattle.std.specs.Prelude.{ℕ, ◌-◌, List, ◌++◌, length, take, min}
-use Rattle.io_edge.specs.Counts.{raised}
+use Rattle.io_edge.specs.Counts.{SinkCounts, raised}
 use Rattle.io_edge.specs.Sink.{stalls_after}
 
 pub record MemSinkState : Type 0 where
@@ -16,7 +16,10 @@ pub record MemSinkState : Type 0 where
   pub faults : ℕ
   pub stalls : ℕ
 
--- how many of so many bytes the next write takes
+abbrev pub counts_of : MemSinkState → SinkCounts
+counts_of s = record { faults = s.faults; stalls = s.stalls; size = s.room }
+
+-- how many of the bytes that it is offered the next write takes
 abbrev pub write_size : MemSinkState → ℕ → ℕ
 write_size s offered = min offered (min s.piece (s.room - length s.taken))
 

@@ -1,8 +1,7 @@
 -- Why a write of a whole text may give up.
-use Rattle.std.specs.Prelude.{ℕ, ◌⊎◌}
-use Rattle.io_edge.specs.Counts.{Rose}
+use Rattle.std.specs.Prelude.{◌⊎◌}
+use Rattle.io_edge.specs.Counts.{SinkCounts, Rose}
 
 -- the sink failed, or it stalled
-abbrev pub FailedOrStalled : ℕ → ℕ → ℕ → ℕ → Type 0
-FailedOrStalled faults_before faults_after stalls_before stalls_after =
-    Rose faults_before faults_after ⊎ Rose stalls_before stalls_after
+abbrev pub FailedOrStalled : SinkCounts → SinkCounts → Type 0
+FailedOrStalled before after = Rose before.faults after.faults ⊎ Rose before.stalls after.stalls

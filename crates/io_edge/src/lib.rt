@@ -1,8 +1,8 @@
 //! Bytes in and out of a program: all of them, or a counted fault.
 //!
 //! A [`Source`] gives bytes in pieces, and a [`Sink`] takes them in pieces. Contracts see a source as the bytes still
-//! to come (`left`) and a sink as the bytes taken (`taken`), where it tells them; each also has counts of what went
-//! wrong, which never fall. So a caller can promise that it blames a stream only where the stream's count rose.
+//! to come (`left`) and a sink as the bytes taken (`taken`), where it tells them; each also counts what went wrong (`faults`
+//! of a source, `counts` of a sink), and no count falls. So a caller can promise that it blames a stream only where the stream's count rose.
 //!
 //! Promised. A read moves a piece from the front of what is left to the front of the buffer, and gives none exactly at
 //! the end (`moved`); one that fails moves nothing and raises `faults` (`kept`, `failed`). A write is the mirror of it,
@@ -27,8 +27,6 @@ mod reading;
 mod sink;
 mod source;
 mod std_streams;
-#[cfg(test)]
-mod tests;
 mod writing;
 
 pub use counts::Failed;

@@ -1,8 +1,8 @@
 //! A sink into memory, which takes pieces of a size, up to its room, and fails when it is told to.
 ghost use Rattle.std.specs.Prelude.{◌≡◌, ◌≤◌, ◌↔◌, [], length, take, Some, Contains, IfOk, OnErr, IsErr};
-ghost use Rattle.io_edge.specs.Counts.{Rose};
+ghost use Rattle.io_edge.specs.Counts.{AreLater, Rose};
 ghost use Rattle.io_edge.specs.Sink.{Gains, CountsStall};
-ghost use Rattle.io_edge.specs.MemSink.{MemSinkState, write_size, after_write, after_failed_write};
+ghost use Rattle.io_edge.specs.MemSink.{MemSinkState, counts_of, write_size, after_write, after_failed_write};
 
 use crate::counts::{one_more, stalls_counted};
 use crate::{Failed, NoMemory, Sink};
@@ -84,11 +84,7 @@ impl MemSink {
 impl Sink for MemSink {
     ghost taken = { λ s. Some s.taken };
 
-    ghost faults = { λ s. s.faults };
-
-    ghost stalls = { λ s. s.stalls };
-
-    ghost size = { λ s. s.room };
+    ghost counts = { counts_of };
 
     /// Fails exactly at the writes in `fails`; else takes a piece, or what is offered, or what there is room for.
     fn write(&mut self, bytes: &[u8]) -> Result<usize, Failed>
@@ -101,12 +97,10 @@ impl Sink for MemSink {
         ensures within { IfOk result (λ k. k ≤ length bytes.now) }
         ensures moved { IfOk result (λ k.
             Gains (Some self.old.taken) (Some self.new.taken) (take k bytes.now)) }
-        ensures stalled { IfOk result (CountsStall self.old.stalls self.new.stalls bytes.now) }
+        ensures stalled { IfOk result (CountsStall (counts_of self.old) (counts_of self.new) bytes.now) }
         ensures failed { OnErr result (Rose self.old.faults self.new.faults) }
         ensures kept { OnErr result (Some self.new.taken ≡ Some self.old.taken) }
-        ensures faults_never_fall { self.old.faults ≤ self.new.faults }
-        ensures stalls_never_fall { self.old.stalls ≤ self.new.stalls }
-        ensures size_kept { self.new.room ≡ self.old.room }
+        ensures counts { AreLater (counts_of self.old) (counts_of self.new) }
     {
         let is_failing = self.fails.contains(&self.writes);
         self.writes = one_more(self.writes);

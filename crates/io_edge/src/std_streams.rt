@@ -1,6 +1,6 @@
 //! The trusted edge: the streams of std as a source and a sink. They tell no content, only what went wrong.
 ghost use Rattle.std.specs.Prelude.{◌≡◌, ◌≤◌, ◌<◌, length, take, None, IfOk, OnOk, OnErr};
-ghost use Rattle.io_edge.specs.Counts.{raised, Rose, SinkCounts};
+ghost use Rattle.io_edge.specs.Counts.{raised, AreLater, Rose, SinkCounts};
 ghost use Rattle.io_edge.specs.Source.{MovesFront};
 ghost use Rattle.io_edge.specs.Sink.{Gains, CountsStall, stalls_after};
 
@@ -60,7 +60,7 @@ impl<R: Read + Drop> Source for StdSource<R> {
     }
 }
 
-/// A stream of std as a sink. Callers see its counts: each error of the stream raises `faults`, and each write
+/// A stream of std as a sink. Callers see its counts, with size 0: each error of the stream raises `faults`, and each write
 /// that takes nothing of a piece that isn't empty raises `stalls`. What a stream keeps back, as a buffered writer does,
 /// is its owner's to flush.
 #[derive(Drop)]
@@ -75,13 +75,13 @@ impl<W: Write + Drop> Model for StdSink<W> {
 
     ghost Value = { SinkCounts };
 
-    ghost view = { λ s. record { faults = s.faults; stalls = s.stalls } };
+    ghost view = { λ s. record { faults = s.faults; stalls = s.stalls; size = 0 } };
 }
 
 impl<W: Write + Drop> StdSink<W> {
     /// The stream as a sink that has no fault and no stall yet. Takes no memory.
     pub fn new(to: W) -> StdSink<W>
-        ensures { result ≡ record { faults = 0; stalls = 0 } }
+        ensures { result ≡ record { faults = 0; stalls = 0; size = 0 } }
     {
         StdSink {
             to,
@@ -94,11 +94,7 @@ impl<W: Write + Drop> StdSink<W> {
 impl<W: Write + Drop> Sink for StdSink<W> {
     ghost taken = { λ _. None };
 
-    ghost faults = { λ s. s.faults };
-
-    ghost stalls = { λ s. s.stalls };
-
-    ghost size = { λ _. 0 };
+    ghost counts = { λ s. s };
 
     fn write(&mut self, bytes: &[u8]) -> Result<usize, Failed>
         ensures stalls_counted { IfOk result (λ k.
@@ -108,10 +104,9 @@ impl<W: Write + Drop> Sink for StdSink<W> {
         // The trait's clauses.
         ensures within { IfOk result (λ k. k ≤ length bytes.now) }
         ensures moved { IfOk result (λ k. Gains None None (take k bytes.now)) }
-        ensures stalled { IfOk result (CountsStall self.old.stalls self.new.stalls bytes.now) }
+        ensures stalled { IfOk result (CountsStall self.old self.new bytes.now) }
         ensures failed { OnErr result (Rose self.old.faults self.new.faults) }
-        ensures faults_never_fall { self.old.faults ≤ self.new.faults }
-        ensures stalls_never_fall { self.old.stalls ≤ self.new.stalls }
+        ensures counts { AreLater self.old self.new }
     {
         match self.to.write(bytes) {
             Ok(size) => {

@@ -1,5 +1,6 @@
 //! A whole text to a sink.
 ghost use Rattle.std.specs.Prelude.{◌≡◌, ◌<◌, ◌≤◌, length, take, OnOk, IfErr, OnErr};
+ghost use Rattle.io_edge.specs.Counts.{AreLater};
 ghost use Rattle.io_edge.specs.Sink.{Gains};
 ghost use Rattle.io_edge.specs.WriteAll.{FailedOrStalled};
 
@@ -21,11 +22,8 @@ pub fn write_all_of<K: Sink>(sink: &mut K, bytes: &[u8]) -> Result<(), WriteFaul
     ensures short { IfErr result (λ fault. fault.taken < length bytes.now) }
     ensures part { IfErr result (λ fault.
         Gains (K.taken sink.old) (K.taken sink.new) (take fault.taken bytes.now)) }
-    ensures cause { OnErr result
-        (FailedOrStalled (K.faults sink.old) (K.faults sink.new) (K.stalls sink.old) (K.stalls sink.new)) }
-    ensures faults_never_fall { K.faults sink.old ≤ K.faults sink.new }
-    ensures stalls_never_fall { K.stalls sink.old ≤ K.stalls sink.new }
-    ensures size_kept { K.size sink.new ≡ K.size sink.old }
+    ensures cause { OnErr result (FailedOrStalled (K.counts sink.old) (K.counts sink.new)) }
+    ensures counts { AreLater (K.counts sink.old) (K.counts sink.new) }
     ensures nothing { length bytes.now ≡ 0 → sink.new ≡ sink.old }
 {
     let mut taken = 0;

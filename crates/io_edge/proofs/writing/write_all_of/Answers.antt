@@ -1,6 +1,6 @@
 use Rattle.std.proofs.Common.{arith}
 use Rattle.std.proofs.lemmas.List.{take_rest, length-drop}
-use Rattle.io_edge.proofs.Gains.{Gains-more}
+use Rattle.io_edge.proofs.Gains.{Gains-more, AreLater-more}
 use Rattle.io_edge.proofs.writing.write_all_of.Goals as goal
 
 pub loop-taken-preserved : goal.loop-taken-preserved
@@ -10,8 +10,6 @@ loop-taken-preserved g c =
     record {
       inside = omega (arith, within, length-drop c.loop-taken.taken c.args.bytes.now);
       gained = Gains-more _ _ _ _ _ _ c.loop-taken.invariant.gained (rw rest at c.in-Ok.ensures.moved);
-      faults = omega arith;
-      stalls = omega arith;
-      size = cc;
+      counts = AreLater-more _ _ _ c.loop-taken.invariant.counts c.in-Ok.ensures.counts;
       untouched = λ none. absurd (omega arith);
     }

@@ -1,4 +1,5 @@
 use Rattle.std.proofs.Common.{length, ◌-◌, ◌≡◌, ◌≤◌, take}
+use Rattle.io_edge.specs.Counts.{AreLater}
 use Rattle.io_edge.specs.Sink.{Gains}
 use Rattle.io_edge.proofs.writing.write_all_of.Given as goal
 
@@ -6,9 +7,7 @@ abbrev pub invariant-loop-taken : goal.invariant-loop-taken
 invariant-loop-taken g l = record {
   inside : l.taken ≤ length l.bytes;
   gained : Gains (g.K.Sink.taken l.initial.sink) (g.K.Sink.taken l.sink) (take l.taken l.bytes);
-  faults : g.K.Sink.faults l.initial.sink ≤ g.K.Sink.faults l.sink;
-  stalls : g.K.Sink.stalls l.initial.sink ≤ g.K.Sink.stalls l.sink;
-  size : g.K.Sink.size l.sink ≡ g.K.Sink.size l.initial.sink;
+  counts : AreLater (g.K.Sink.counts l.initial.sink) (g.K.Sink.counts l.sink);
   untouched : l.taken ≡ 0 → l.sink ≡ l.initial.sink;
 }
 
