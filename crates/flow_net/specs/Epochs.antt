@@ -34,7 +34,7 @@ abbrev pub chain_length : Epochs → List Pin → ℕ → ℕ
 chain_length epochs [] driver = 0
 chain_length epochs (pin ∷ pins) driver = cond (pin.driver == driver) (max (need_of epochs pin) (chain_length epochs pins driver)) (chain_length epochs pins driver)
 
--- the chain lengths of so many drivers, in order
+-- the chain lengths of the first n drivers, in order
 abbrev pub chain_lengths : Epochs → List Pin → ℕ → List ℕ
 chain_lengths epochs pins zero = []
 chain_lengths epochs pins (suc driver) = chain_lengths epochs pins driver ++ chain_length epochs pins driver ∷ []

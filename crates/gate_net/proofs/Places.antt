@@ -6,7 +6,7 @@ use Rattle.std.proofs.lemmas.List.Folds.{position_or_len_push}
 use Rattle.std.proofs.lemmas.List.Sums.{prefix_len-le-length}
 use Rattle.std.proofs.lemmas.List.{length_push}
 
--- `position` over numbers: where the first place was, in a list of so many, and where it is after a push.
+-- `position` over numbers: where the first place was, in a list of n, and where it is after a push.
 seen_apart : (k l n m : ℕ) → m ≡ n + 1 → l ≡ cond (eqb k n) (n + 1) k → k ≤ n → cond (nat_lt l m) (Some l) None ≡ cond (nat_lt k n) (Some k) None
 seen_apart k l n m e f h = grind (arith, nat_tests)
 

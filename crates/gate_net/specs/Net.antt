@@ -11,7 +11,7 @@ use Rattle.gate_net.specs.declared.row.GateRow.{GateRow}
 use Rattle.gate_net.specs.declared.net.GateNet.{GateNet}
 use Rattle.gate_net.specs.Rows.{with_row}
 
--- the driver is one of so many inputs, or one of so many gates
+-- the driver is one of the inputs, or one of the gates, given how many there are of each
 abbrev pub IsThere : ℕ → ℕ → Driver → Type 0
 IsThere inputs gates (Input i) = i < inputs
 IsThere inputs gates (Gate k) = k < gates

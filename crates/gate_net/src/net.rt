@@ -21,7 +21,7 @@ pub struct GateNet {
 }
 
 impl GateNet {
-    /// The netlist of so many inputs, without gates and outputs. It takes no memory.
+    /// The netlist of `inputs` inputs, without gates and outputs. It takes no memory.
     pub fn new(alloc: Global, inputs: u32) -> GateNet
         ensures value { result ≡ bare_net inputs }
         ensures net { IsGateNet result }

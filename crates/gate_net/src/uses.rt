@@ -21,7 +21,7 @@ fn mark(marks: &mut [bool], driver: Driver)
     }
 }
 
-// For each of so many gates, whether it is among the drivers.
+// For each of `gates` gates, whether it is among the drivers.
 fn used_marks(alloc: Global, gates: usize, drivers: &[Driver]) -> Result<Vec<bool>, NoMemory>
     ensures each { IfOk result (λ marks. length marks.items ≡ gates) }
     ensures value { IfOk result (λ marks. (k : ℕ) → k < gates → slice_index_or marks.items k false ≡ list_any (same_driver (Gate k)) drivers.now) }

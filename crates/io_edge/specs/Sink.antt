@@ -10,6 +10,6 @@ Gains before after bytes = after ≡ option_map (λ taken. taken ++ bytes) befor
 abbrev pub CountsStall : SinkCounts → SinkCounts → List ℕ → ℕ → Type 0
 CountsStall before after bytes k = k ≡ 0 → 0 < length bytes → Rose before.stalls after.stalls
 
--- the stalls after k of so many bytes were taken
+-- the stalls after k of the offered bytes were taken
 abbrev pub stalls_after : ℕ → ℕ → ℕ → ℕ
 stalls_after stalls offered k = if nat_eq k 0 && nat_lt 0 offered then raised stalls else stalls

@@ -17,7 +17,7 @@ pub(crate) fn one_more(count: u64) -> u64
     count.saturating_add(1)
 }
 
-// The stalls after a write that was offered so many bytes and took so many.
+// The stalls after a write that took `taken` of the `offered` bytes.
 pub(crate) fn stalls_counted(stalls: u64, offered: usize, taken: usize) -> u64
     ensures { result ≡ stalls_after stalls offered taken }
 {

@@ -25,7 +25,7 @@ pub record IsProper (graph : Graph) : Type 0 where
   pub few : length graph.nodes ≤ MAX_NODES
   pub nodes : AreNodes graph.inputs graph.nodes
 
--- a signal is a constant, or one of so many nodes
+-- a signal is a constant, or one of n nodes
 abbrev pub IsRefThere : ℕ → Ref → Type 0
 IsRefThere nodes (Const value) = Unit {0}
 IsRefThere nodes (Node k) = k < nodes

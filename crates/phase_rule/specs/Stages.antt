@@ -10,7 +10,7 @@ stage_of n epoch phase = n * epoch + phase
 abbrev pub weight_of : ℕ → ℕ → ℕ
 weight_of user driver = cond (nat_lt driver user) 0 1
 
--- the DROs that a pin needs whose user is so many stages behind its driver: the gap over n, rounded up, less 1
+-- the DROs that a pin needs whose user is `gap` stages behind its driver: the gap over n, rounded up, less 1
 abbrev pub need_over_stages : ℕ → ℕ → ℕ
 need_over_stages n gap = (gap + n - 1) / n - 1
 

@@ -10,7 +10,7 @@ use Rattle.indexmap.specs.IndexSet.{insert_key}
 use Rattle.rsfq_main.specs.declared.design.Design.{Design}
 use Rattle.rsfq_main.specs.declared.design.Table.{Table}
 use Rattle.net_base.specs.Keys.{is_among}
-use Rattle.rsfq_main.specs.PlainRules.{Names, AreSameNames, are_new, are_tables, drivers_of, uses_of, is_circuit}
+use Rattle.rsfq_main.specs.PlainRules.{Names, AreSameNames, are_new, are_tables, driving_names, used_names, is_circuit}
 
 or_known : (a b c : Bool) → (b ≡ true → a ≡ true) → (a || c) ≡ (a || (b || c))
 or_known true b c known = refl
@@ -43,9 +43,9 @@ are_used-same uses those (table ∷ tables) same = rw (same table.target) (ap (�
 -- where the drivers and the outputs keep to the rules, the targets decide
 pub is_circuit-rest : (design : Design) (drivers uses : Names)
     → are_new [] design.inputs ≡ true → are_tables design.inputs design.tables ≡ true → are_new [] design.outputs ≡ true
-    → drivers ≡ drivers_of design → list_all (λ output. is_among bytes_eq output drivers) design.outputs ≡ true → AreSameNames uses (uses_of design)
+    → drivers ≡ driving_names design → list_all (λ output. is_among bytes_eq output drivers) design.outputs ≡ true → AreSameNames uses (used_names design)
     → list_all (λ table. is_among bytes_eq table.target uses) design.tables ≡ is_circuit design
 unfolding is_circuit
 is_circuit-rest design drivers uses inputs tables outputs all driven same =
-    let driven' : list_all (λ output. is_among bytes_eq output (drivers_of design)) design.outputs ≡ true = subst (λ (drivers : Names). list_all (λ output. is_among bytes_eq output drivers) design.outputs ≡ true) all driven in
-    rw (inputs, tables, outputs, driven') (are_used-same uses (uses_of design) design.tables same)
+    let driven' : list_all (λ output. is_among bytes_eq output (driving_names design)) design.outputs ≡ true = subst (λ (drivers : Names). list_all (λ output. is_among bytes_eq output drivers) design.outputs ≡ true) all driven in
+    rw (inputs, tables, outputs, driven') (are_used-same uses (used_names design) design.tables same)

@@ -15,7 +15,7 @@ use Rattle.rsfq_main.specs.PlainForm.{name_at, names_at, name_line_at, further_n
 use Rattle.rsfq_main.specs.PlainRules.{is_circuit}
 use Rattle.rsfq_main.specs.DesignValues.{row_matches}
 use Rattle.rsfq_main.specs.Spelling.{line, model_line, header_lines, input_lines, output_lines, spelling_of, no_flow}
-use Rattle.rsfq_main.specs.Run.{output_of}
+use Rattle.rsfq_main.specs.Commands.{output_of}
 
 -- a table that negates its pin, and one that is the AND of its two
 abbrev pub not_of : List ℕ → List ℕ → Table
@@ -70,26 +70,26 @@ unfolding name_at names_at name_line_at further_name_at table_at tables_of model
 shared_pin = refl
 
 -- the second table has no user
-unused_target : output_of 1 (codes ".model t\n.inputs a b\n.outputs f\n.names a f\n0 1\n.names b g\n0 1\n.end\n") ≡ Err NotYet
+unused_target : output_of (Map 1) (codes ".model t\n.inputs a b\n.outputs f\n.names a f\n0 1\n.names b g\n0 1\n.end\n") ≡ Err NotYet
 unfolding name_at names_at name_line_at further_name_at table_at tables_of model_line_at lines_of plain_design is_circuit
 unused_target = refl
 
 -- nothing drives the output g
-undriven_output : output_of 1 (codes ".model t\n.inputs a\n.outputs f g\n.names a f\n0 1\n.end\n") ≡ Err NotYet
+undriven_output : output_of (Map 1) (codes ".model t\n.inputs a\n.outputs f g\n.names a f\n0 1\n.end\n") ≡ Err NotYet
 unfolding name_at names_at name_line_at further_name_at table_at tables_of model_line_at lines_of plain_design is_circuit
 undriven_output = refl
 
 -- the pin g is driven only behind its table
-undriven_pin : output_of 1 (codes ".model t\n.inputs a\n.outputs f\n.names g f\n0 1\n.names a g\n0 1\n.end\n") ≡ Err NotYet
+undriven_pin : output_of (Map 1) (codes ".model t\n.inputs a\n.outputs f\n.names g f\n0 1\n.names a g\n0 1\n.end\n") ≡ Err NotYet
 unfolding name_at names_at name_line_at further_name_at table_at tables_of model_line_at lines_of plain_design is_circuit
 undriven_pin = refl
 
 -- the target is an input
-driven_twice : output_of 1 (codes ".model t\n.inputs a b\n.outputs b\n.names a b\n0 1\n.end\n") ≡ Err NotYet
+driven_twice : output_of (Map 1) (codes ".model t\n.inputs a b\n.outputs b\n.names a b\n0 1\n.end\n") ≡ Err NotYet
 unfolding name_at names_at name_line_at further_name_at table_at tables_of model_line_at lines_of plain_design is_circuit
 driven_twice = refl
 
-empty_text : output_of 1 [] ≡ Err NotYet
+empty_text : output_of (Map 1) [] ≡ Err NotYet
 unfolding model_line_at lines_of plain_design
 empty_text = refl
 

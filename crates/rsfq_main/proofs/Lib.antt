@@ -15,6 +15,6 @@ pub mod MappingCalls
 pub mod ClockingChains
 pub mod NetlistMeans
 pub mod SpellingLines
-pub mod RunClauses
+pub mod Noted
 mod Examples
 mod MappingExamples

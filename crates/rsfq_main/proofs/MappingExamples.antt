@@ -8,7 +8,7 @@ use Rattle.gate_net.specs.declared.row.End.TheVariants.{From}
 use Rattle.gate_net.specs.declared.row.GateRow.{GateRow}
 use Rattle.rsfq_main.specs.declared.design.Design.{Design}
 use Rattle.rsfq_main.specs.PlainRules.{is_circuit}
-use Rattle.rsfq_main.specs.DesignValues.{output_value}
+use Rattle.rsfq_main.specs.DesignValues.{design_value}
 use Rattle.rsfq_main.specs.Mapping.{gates_of}
 use Rattle.rsfq_main.proofs.Examples.{not_of, and_of, design_of, two_tables}
 
@@ -18,16 +18,16 @@ gate cell pins = record { cell = cell; pins = pins }
 gates_of-two_tables : gates_of two_tables ≡ record { inputs = 2; gates = gate Not (Input 1 ∷ []) ∷ gate And (Input 0 ∷ Gate 0 ∷ []) ∷ []; outputs = From (Gate 1) ∷ [] }
 gates_of-two_tables = refl
 
-neither : output_value two_tables (false ∷ false ∷ []) 0 ≡ false
+neither : design_value two_tables (false ∷ false ∷ []) 0 ≡ false
 neither = refl
 
-only_a : output_value two_tables (true ∷ false ∷ []) 0 ≡ true
+only_a : design_value two_tables (true ∷ false ∷ []) 0 ≡ true
 only_a = refl
 
-only_b : output_value two_tables (false ∷ true ∷ []) 0 ≡ false
+only_b : design_value two_tables (false ∷ true ∷ []) 0 ≡ false
 only_b = refl
 
-both : output_value two_tables (true ∷ true ∷ []) 0 ≡ false
+both : design_value two_tables (true ∷ true ∷ []) 0 ≡ false
 both = refl
 
 -- g and h are the same table, with its pins in descending order once; so are the two inverters

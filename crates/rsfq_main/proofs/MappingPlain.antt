@@ -13,7 +13,7 @@ use Rattle.gate_net.specs.Net.{IsThere}
 use Rattle.gate_net.proofs.CallerLemmas.{bare_net-formed}
 use Rattle.rsfq_main.specs.declared.design.Design.{Design}
 use Rattle.net_base.specs.Keys.{is_among}
-use Rattle.rsfq_main.specs.PlainRules.{Names, IsPlain, are_new, are_tables, is_circuit, drivers_of, uses_of}
+use Rattle.rsfq_main.specs.PlainRules.{Names, IsPlain, are_new, are_tables, is_circuit, driving_names, used_names}
 use Rattle.rsfq_main.specs.Mapping.{Mapping, input_drivers, inputs_alone, mapping_of}
 use Rattle.rsfq_main.specs.MappingSteps.{IsNew, TakesInputs, TakesTables, with_driver}
 use Rattle.net_base.proofs.CallerLemmas.{lookup-absent}
@@ -23,8 +23,8 @@ use Rattle.rsfq_main.proofs.MappingSteps.{IsSound, takes-tables, sound-tables}
 pub record KeepsRules (design : Design) : Type 0 where
   pub inputs : are_new [] design.inputs ≡ true
   pub tables : are_tables design.inputs design.tables ≡ true
-  pub driven : list_all (λ output. is_among bytes_eq output (drivers_of design)) design.outputs ≡ true
-  pub used : list_all (λ table. is_among bytes_eq table.target (uses_of design)) design.tables ≡ true
+  pub driven : list_all (λ output. is_among bytes_eq output (driving_names design)) design.outputs ≡ true
+  pub used : list_all (λ table. is_among bytes_eq table.target (used_names design)) design.tables ≡ true
 
 pub keeps_rules : (design : Design) → is_circuit design ≡ true → KeepsRules design
 unfolding is_circuit
@@ -32,8 +32,8 @@ keeps_rules design e =
     let inputs = are_new [] design.inputs in
     let tables = are_tables design.inputs design.tables in
     let outputs = are_new [] design.outputs in
-    let driven = list_all (λ output. is_among bytes_eq output (drivers_of design)) design.outputs in
-    let used = list_all (λ table. is_among bytes_eq table.target (uses_of design)) design.tables in
+    let driven = list_all (λ output. is_among bytes_eq output (driving_names design)) design.outputs in
+    let used = list_all (λ table. is_among bytes_eq table.target (used_names design)) design.tables in
     let last = and_parts (inputs && tables && outputs && driven) used e in
     let third = and_parts (inputs && tables && outputs) driven last.0 in
     let second = and_parts (inputs && tables) outputs third.0 in
@@ -76,5 +76,5 @@ module _ (design : Design) (plain : IsPlain design) where
       plain.shapes (omega (arith, plain.few_tables))
 
   -- and each of its drivers is in the netlist.
-  pub plain-sound : IsSound (drivers_of design) (mapping_of design)
+  pub plain-sound : IsSound (driving_names design) (mapping_of design)
   plain-sound = sound-tables design.inputs design.tables (inputs_alone design) (sound-inputs design) plain-takes

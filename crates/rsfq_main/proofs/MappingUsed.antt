@@ -22,7 +22,7 @@ use Rattle.gate_net.specs.Net.{IsEndThere, EachGateIsUsed, end_drivers, pin_driv
 use Rattle.rsfq_main.specs.declared.design.Design.{Design}
 use Rattle.rsfq_main.specs.declared.design.Table.{Table}
 use Rattle.net_base.specs.Keys.{is_among}
-use Rattle.rsfq_main.specs.PlainRules.{Names, IsPlain, is_table, are_tables, drivers_of, uses_of}
+use Rattle.rsfq_main.specs.PlainRules.{Names, IsPlain, is_table, are_tables, driving_names, used_names}
 use Rattle.rsfq_main.specs.Mapping.{Mapping, IsMapped, driver_named, gate_of, with_table, with_tables, inputs_alone, mapping_of, gates_of}
 use Rattle.rsfq_main.specs.MappingSteps.{IsDriven, TakesTables}
 use Rattle.gate_net.proofs.CallerLemmas.{IsPermutation-ascending, gate_place-here, with_row-place, ends-drivers}
@@ -100,11 +100,11 @@ module _ (design : Design) (plain : IsPlain design) where
   -- Each output of a plain design is driven,
   pub outputs-driven : All (IsDriven (mapping_of design)) design.outputs
   outputs-driven =
-      All-weaker (λ output. is_among bytes_eq output (drivers_of design) ≡ true) (IsDriven (mapping_of design)) (sound-driven (drivers_of design) (mapping_of design) (plain-sound design plain))
-      design.outputs (AllPass-from_list_all (λ output. is_among bytes_eq output (drivers_of design)) design.outputs (keeps_rules design plain.circuit).driven)
+      All-weaker (λ output. is_among bytes_eq output (driving_names design) ≡ true) (IsDriven (mapping_of design)) (sound-driven (driving_names design) (mapping_of design) (plain-sound design plain))
+      design.outputs (AllPass-from_list_all (λ output. is_among bytes_eq output (driving_names design)) design.outputs (keeps_rules design plain.circuit).driven)
 
   -- the driver of each use is a driver of the gates' pins and the outputs,
-  uses-used : All (λ name. Contains (pin_drivers (gates_of design)) (driver_named (mapping_of design).drivers name)) (uses_of design)
+  uses-used : All (λ name. Contains (pin_drivers (gates_of design)) (driver_named (mapping_of design).drivers name)) (used_names design)
   uses-used =
       let final = mapping_of design in
       let dn = driver_named final.drivers in
@@ -122,10 +122,10 @@ module _ (design : Design) (plain : IsPlain design) where
   each-used =
       let P : Driver → Type 0 = Contains (pin_drivers (gates_of design)) in
       all-gates P design.inputs design.tables (inputs_alone design) (sound-inputs design) (plain-takes design plain) (λ k within. absurd (omega arith))
-      (All-weaker (λ (table : Table). is_among bytes_eq table.target (uses_of design) ≡ true) (λ (table : Table). P (driver_named (mapping_of design).drivers table.target))
-      (λ table used. All-contains (λ name. P (driver_named (mapping_of design).drivers name)) (uses_of design) table.target uses-used
-      (Contains-list_any bytes_eq (λ a b. (bytes_eq-Decides a b).0) (uses_of design) table.target used))
-      design.tables (AllPass-from_list_all (λ table. is_among bytes_eq table.target (uses_of design)) design.tables (keeps_rules design plain.circuit).used))
+      (All-weaker (λ (table : Table). is_among bytes_eq table.target (used_names design) ≡ true) (λ (table : Table). P (driver_named (mapping_of design).drivers table.target))
+      (λ table used. All-contains (λ name. P (driver_named (mapping_of design).drivers name)) (used_names design) table.target uses-used
+      (Contains-list_any bytes_eq (λ a b. (bytes_eq-Decides a b).0) (used_names design) table.target used))
+      design.tables (AllPass-from_list_all (λ table. is_among bytes_eq table.target (used_names design)) design.tables (keeps_rules design plain.circuit).used))
 
   -- and the steps behind have what they use.
   pub plain-mapped : IsMapped (gates_of design)

@@ -19,9 +19,9 @@ use Rattle.gate_net.specs.Rows.{gate_place}
 use Rattle.gate_net.specs.Net.{IsThere}
 use Rattle.gate_net.specs.Values.{driver_value, gate_value, end_value, values_by}
 use Rattle.rsfq_main.specs.declared.design.Table.{Table}
-use Rattle.rsfq_main.specs.DesignValues.{Values, value_named, input_values, row_matches, table_value, with_tables as values_with_tables, values_of}
+use Rattle.rsfq_main.specs.DesignValues.{Values, value_named, input_values, row_matches, table_value, with_targets, values_of}
 use Rattle.net_base.specs.Keys.{is_among}
-use Rattle.rsfq_main.specs.PlainRules.{Names, HasShape, is_table, are_tables, drivers_of}
+use Rattle.rsfq_main.specs.PlainRules.{Names, HasShape, is_table, are_tables, driving_names}
 use Rattle.rsfq_main.specs.Mapping.{Mapping, Drivers, driver_named, input_drivers, cell_of, gate_of, with_table, with_tables, inputs_alone, mapping_of, gates_of}
 use Rattle.rsfq_main.specs.MappingLaws.{GatesKeepValues}
 use Rattle.rsfq_main.specs.MappingSteps.{TakesTable, TakesTables}
@@ -105,7 +105,7 @@ module _ (bits : List Bool) where
       ∙ sym here
 
   -- So all signals have, table by table,
-  tables-valued : (names : Names) (tables : List Table) (so : Mapping) → IsSound names so → TakesTables so tables → are_tables names tables ≡ true → (values : Values) → values ≡ valued so.net.gates so.drivers → values_with_tables values tables ≡ valued (with_tables tables so).net.gates (with_tables tables so).drivers
+  tables-valued : (names : Names) (tables : List Table) (so : Mapping) → IsSound names so → TakesTables so tables → are_tables names tables ≡ true → (values : Values) → values ≡ valued so.net.gates so.drivers → with_targets values tables ≡ valued (with_tables tables so).net.gates (with_tables tables so).drivers
   tables-valued names [] so sound takes e values agree = agree
   tables-valued names (table ∷ tables) so sound takes e values agree =
       let parts = and_parts (is_table names table) (are_tables (names ++ table.target ∷ []) tables) e in
@@ -132,8 +132,8 @@ gates_keep_values design plain bits output within =
     let rules = keeps_rules design plain.circuit in
     let name = get_or design.outputs output [] in
     let ends : get_or (gates_of design).outputs output Zero ≡ From (driver_named final.drivers name) = get_or-map (λ output. From (driver_named final.drivers output)) design.outputs output [] Zero within in
-    let among : is_among bytes_eq name (drivers_of design) ≡ true =
-    AllPass-from_list_all (λ output. is_among bytes_eq output (drivers_of design)) design.outputs rules.driven output [] within in
+    let among : is_among bytes_eq name (driving_names design) ≡ true =
+    AllPass-from_list_all (λ output. is_among bytes_eq output (driving_names design)) design.outputs rules.driven output [] within in
     let all : values_of design bits ≡ valued bits final.net.gates final.drivers =
     tables-valued bits design.inputs design.tables (inputs_alone design) (sound-inputs design) (plain-takes design plain) rules.tables (input_values bits 0 design.inputs) (inputs-valued bits 0 design.inputs) in
     ap (end_value (gates_of design) bits) ends

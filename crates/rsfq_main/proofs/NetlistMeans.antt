@@ -17,12 +17,17 @@ use Rattle.pulse_net.specs.GatePulses.{UnfoldedPulses}
 use Rattle.splitters.specs.Elements.{elements_of}
 use Rattle.splitters.specs.Laws.{ChainsAreValid, ChainsUnfold, HasNames}
 use Rattle.rsfq_main.specs.declared.design.Design.{Design}
+use Rattle.rsfq_main.specs.DesignValues.{design_value}
 use Rattle.rsfq_main.specs.PlainRules.{IsPlain}
 use Rattle.rsfq_main.specs.Mapping.{inputs_alone, mapping_of, driver_named, gates_of}
 use Rattle.rsfq_main.specs.MappingLaws.{GatesKeepValues}
 use Rattle.rsfq_main.specs.Clocking.{clocked, HasClock}
 use Rattle.rsfq_main.specs.Netlist.{names_of, netlist_of, Means}
 use Rattle.rsfq_main.proofs.MappingSteps.{same-inputs}
+
+-- a netlist that means the names and the values of a design
+abbrev pub MeansDesign : ℕ → Design → PulseNet → Type 0
+MeansDesign n design net = Means n (names_of design) (design_value design) net
 
 -- the design has a name for each input and each output
 pub has_names : (n : ℕ) (design : Design) → HasNames (clocked n (gates_of design)) (names_of design)
@@ -33,7 +38,7 @@ has_names n design = record {
 
 -- The netlist is valid and unfolds to the gates; so what is read at an output is the gates' value there, which is the
 -- tables' value.
-pub netlist_means : GatesKeepValues → ChainsAreValid → ChainsUnfold → UnfoldedPulses → (n : ℕ) (design : Design) → IsPlain design → HasClock n (gates_of design) → Means n design (netlist_of n design)
+pub netlist_means : GatesKeepValues → ChainsAreValid → ChainsUnfold → UnfoldedPulses → (n : ℕ) (design : Design) → IsPlain design → HasClock n (gates_of design) → MeansDesign n design (netlist_of n design)
 unfolding netlist_of
 netlist_means keep are_valid unfolds pulse n design plain has =
     let gates = gates_of design in
@@ -62,5 +67,5 @@ answer-value r n design gates chained of_design clocks =
     (λ net made. made ∙ ap (λ (c : Chained). elements_of c (names_of design)) (clocks ∙ ap (clocked n) of_design))
 
 -- and it means the design
-pub answer-means : {E : Type 0} (r : Result PulseNet E) (n : ℕ) (design : Design) → Means n design (netlist_of n design) → IfOk r (λ net. net ≡ netlist_of n design) → IfOk r (λ net. Means n design net)
-answer-means r n design means = IfOk-weaker r (λ net. net ≡ netlist_of n design) (Means n design) (λ net made. subst (Means n design) (sym made) means)
+pub answer-means : {E : Type 0} (r : Result PulseNet E) (n : ℕ) (design : Design) → MeansDesign n design (netlist_of n design) → IfOk r (λ net. net ≡ netlist_of n design) → IfOk r (MeansDesign n design)
+answer-means r n design means = IfOk-weaker r (λ net. net ≡ netlist_of n design) (MeansDesign n design) (λ net made. subst (MeansDesign n design) (sym made) means)

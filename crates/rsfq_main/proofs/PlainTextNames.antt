@@ -78,7 +78,7 @@ name_at_name name rest is other =
     let short : nat_le (length name) MAX_NAME_BYTES ≡ true = grind (arith, nat_tests) in
     rw (prefix_len-name name rest is.plain other, take-append_seam name rest, some, short, drop-append_seam name rest) refl
 
--- names and the end of their line before a rest, so many at most
+-- names and the end of their line before a rest, `most` of them at most
 pub record BeginsWithNames (most : ℕ) (text : List ℕ) (read : List (List ℕ) × List ℕ) : Type 0 where
   pub spelling : text ≡ words_of read.0 ++ (codes "\n" ++ read.1)
   pub few : length read.0 ≤ most

@@ -97,7 +97,7 @@ table_at_table row [] target rest (inr is) long plain is_target = absurd (omega 
 table_at_table row (pin ∷ []) target rest (inr is) long plain is_target = absurd (omega (arith, ap length is))
 table_at_table row (first ∷ second ∷ third ∷ pins) target rest (inr is) long plain is_target = absurd (omega (arith, ap length is))
 
--- tables and the end line, so many at most
+-- tables and the end line, `most` of them at most
 pub record AreSpelled (most : ℕ) (text : List ℕ) (tables : List Table) : Type 0 where
   pub spelling : text ≡ flat_map table_text tables ++ codes ".end\n"
   pub few : length tables ≤ most

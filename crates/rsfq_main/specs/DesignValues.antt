@@ -30,14 +30,14 @@ abbrev pub table_value : Values → Table → Bool
 table_value values table = row_matches table.row (map (value_named values) table.pins)
 
 -- the targets of tables have the tables' values
-abbrev pub with_tables : Values → List Table → Values
-with_tables values [] = values
-with_tables values (table ∷ tables) = with_tables (values ++ (table.target, table_value values table) ∷ []) tables
+abbrev pub with_targets : Values → List Table → Values
+with_targets values [] = values
+with_targets values (table ∷ tables) = with_targets (values ++ (table.target, table_value values table) ∷ []) tables
 
 -- the values of all signals over a row
 abbrev pub values_of : Design → List Bool → Values
-values_of design bits = with_tables (input_values bits 0 design.inputs) design.tables
+values_of design bits = with_targets (input_values bits 0 design.inputs) design.tables
 
 -- the value of the output at a place over a row
-abbrev pub output_value : Design → List Bool → ℕ → Bool
-output_value design bits output = value_named (values_of design bits) (slice_index_or design.outputs output [])
+abbrev pub design_value : Design → List Bool → ℕ → Bool
+design_value design bits output = value_named (values_of design bits) (slice_index_or design.outputs output [])

@@ -1,11 +1,11 @@
--- The status and the note of each fault.
+-- The status and the note of what ends a run.
 use Rattle.std.specs.Prelude.{ℕ, List, Result, Ok, Err, codes}
 use Rattle.rsfq_main.specs.declared.status.Status.{Status}
 use Rattle.rsfq_main.specs.declared.status.Status.TheVariants as statuses
 use Rattle.rsfq_main.specs.declared.fault.Refusal.{Refusal}
 use Rattle.rsfq_main.specs.declared.fault.Refusal.TheVariants.{TooLong, NotYet}
 use Rattle.rsfq_main.specs.declared.fault.Fault.{Fault}
-use Rattle.rsfq_main.specs.declared.fault.Fault.TheVariants.{Usage, Read, Refused, Write, NoMemory}
+use Rattle.rsfq_main.specs.declared.fault.Fault.TheVariants as faults
 
 abbrev pub number_of : Status → ℕ
 number_of statuses.Done = 0
@@ -16,24 +16,27 @@ number_of statuses.WriteFault = 4
 number_of statuses.NoMemory = 5
 number_of statuses.No = 6
 
+-- the fault that a refusal ends a run with; but for a text that is too long it has brought its note
+abbrev pub fault_of : Refusal → Fault
+fault_of TooLong = faults.TooLong
+fault_of NotYet = faults.Refused (codes "not yet\n")
+
 abbrev pub fault_status : Fault → Status
-fault_status Usage = statuses.Usage
-fault_status Read = statuses.ReadFault
-fault_status (Refused refusal) = statuses.Refused
-fault_status Write = statuses.WriteFault
-fault_status NoMemory = statuses.NoMemory
+fault_status faults.Usage = statuses.Usage
+fault_status faults.Read = statuses.ReadFault
+fault_status faults.TooLong = statuses.Refused
+fault_status (faults.Refused note) = statuses.Refused
+fault_status faults.Write = statuses.WriteFault
+fault_status faults.NoMemory = statuses.NoMemory
+
+abbrev pub fault_line : Fault → List ℕ
+fault_line faults.Usage = codes "usage: COMMAND [KEY=VALUE ...]\n"
+fault_line faults.Read = codes "read fault\n"
+fault_line faults.TooLong = codes "text too long\n"
+fault_line (faults.Refused note) = note
+fault_line faults.Write = codes "write fault\n"
+fault_line faults.NoMemory = codes "no memory\n"
 
 abbrev pub outcome_status : {T : Type 0} → Result T Fault → Status
 outcome_status (Ok done) = statuses.Done
 outcome_status (Err fault) = fault_status fault
-
-abbrev pub refusal_line : Refusal → List ℕ
-refusal_line TooLong = codes "text too long\n"
-refusal_line NotYet = codes "not yet\n"
-
-abbrev pub fault_line : Fault → List ℕ
-fault_line Usage = codes "usage: COMMAND [KEY=VALUE ...]\n"
-fault_line Read = codes "read fault\n"
-fault_line (Refused refusal) = refusal_line refusal
-fault_line Write = codes "write fault\n"
-fault_line NoMemory = codes "no memory\n"

@@ -9,7 +9,9 @@ pub mod MappingLaws
 pub mod MappingSteps
 pub mod Clocking
 pub mod Netlist
-pub mod Map
 pub mod Spelling
+pub mod Map
+pub mod Commands
 pub mod Faults
+pub mod Outcomes
 pub mod Run

@@ -8,7 +8,6 @@ use Rattle.pulse_net.specs.Laws.{row_of}
 use Rattle.dro_chains.specs.declared.chain.Chained.{Chained}
 use Rattle.splitters.specs.Elements.{elements_of}
 use Rattle.rsfq_main.specs.declared.design.Design.{Design}
-use Rattle.rsfq_main.specs.DesignValues.{output_value}
 use Rattle.rsfq_main.specs.Mapping.{gates_of}
 use Rattle.rsfq_main.specs.Clocking.{clocked}
 use Rattle.rsfq_main.specs.Spelling.{spelling_of, no_flow}
@@ -25,14 +24,18 @@ chains_of n design = clocked n (gates_of design)
 unfoldable pub netlist_of : ℕ → Design → PulseNet
 netlist_of n design = elements_of (chains_of n design) (names_of design)
 
--- A netlist means a design: it is valid, with n phases and the design's names, and for every list of input rows the value
--- read at each output for each row is the value that the design's tables give the output over that row.
-pub record Means (n : ℕ) (design : Design) (net : PulseNet) : Type 0 where
+-- the value of each output, by its place, over a row of input bits
+abbrev pub OutputValues : Type 0
+OutputValues = List Bool → ℕ → Bool
+
+-- A netlist means names and values: it is valid, with n phases and these names, and for every list of input rows the value
+-- read at each output for each row is the output's value over that row.
+pub record Means (n : ℕ) (its_names : Names) (value : OutputValues) (net : PulseNet) : Type 0 where
   pub valid : IsValid net
   pub phases : net.phases ≡ n
-  pub names : net.names ≡ names_of design
-  pub values : (rows : List (List Bool)) (c output : ℕ) → c < length rows → output < length design.outputs → value_read net rows output c ≡ output_value design (row_of rows c) output
+  pub names : net.names ≡ its_names
+  pub values : (rows : List (List Bool)) (c output : ℕ) → c < length rows → output < length its_names.outputs → value_read net rows output c ≡ value (row_of rows c) output
 
--- bytes mean a design where they spell a netlist that means it
-abbrev pub SpellsMeaning : ℕ → Design → List ℕ → Type 0
-SpellsMeaning n design bytes = (net : PulseNet) × (bytes ≡ spelling_of net no_flow) × Means n design net
+-- bytes mean names and values where they spell a netlist that means them
+abbrev pub SpellsMeaning : ℕ → Names → OutputValues → List ℕ → Type 0
+SpellsMeaning n names value bytes = (net : PulseNet) × (bytes ≡ spelling_of net no_flow) × Means n names value net

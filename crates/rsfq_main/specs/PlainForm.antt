@@ -27,7 +27,7 @@ name_at text =
 unfoldable pub further_name_at : List ℕ → Option (List ℕ × List ℕ)
 further_name_at text = after (codes " ") text >>= name_at
 
--- the end of the line, behind so many names
+-- the end of the line, with no further name
 abbrev pub ended_at : List ℕ → Option (List (List ℕ) × List ℕ)
 ended_at text = after (codes "\n") text >>= λ rest. Some ([], rest)
 
@@ -39,7 +39,7 @@ with_name name others = Some (name ∷ others.0, others.1)
 abbrev pub behind_names : List (List ℕ) → Option (List (List ℕ) × List ℕ) → Option (List (List ℕ) × List ℕ)
 behind_names names read = read >>= λ others. Some (names ++ others.0, others.1)
 
--- names up to the end of the line, so many at most, each behind a space
+-- names up to the end of the line, `most` of them at most, each behind a space
 unfoldable pub names_at : ℕ → List ℕ → Option (List (List ℕ) × List ℕ)
 names_at zero text = ended_at text
 names_at (suc most) text =
@@ -73,7 +73,7 @@ with_table table others = Some (table ∷ others)
 abbrev pub behind_tables : List Table → Option (List Table) → Option (List Table)
 behind_tables tables read = read >>= λ others. Some (tables ++ others)
 
--- tables up to the end line, so many at most
+-- tables up to the end line, `most` of them at most
 unfoldable pub tables_of : ℕ → List ℕ → Option (List Table)
 tables_of zero text = end_of text
 tables_of (suc most) text =

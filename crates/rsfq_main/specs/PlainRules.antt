@@ -34,11 +34,11 @@ are_tables drivers [] = true
 are_tables drivers (table ∷ tables) = is_table drivers table && are_tables (drivers ++ table.target ∷ []) tables
 
 -- all drivers, and all uses
-abbrev pub drivers_of : Design → Names
-drivers_of design = design.inputs ++ map (λ table. table.target) design.tables
+abbrev pub driving_names : Design → Names
+driving_names design = design.inputs ++ map (λ table. table.target) design.tables
 
-abbrev pub uses_of : Design → Names
-uses_of design = flat_map (λ table. table.pins) design.tables ++ design.outputs
+abbrev pub used_names : Design → Names
+used_names design = flat_map (λ table. table.pins) design.tables ++ design.outputs
 
 -- Each signal is driven once, before the tables that use it; the outputs differ, and are driven; and each target is used.
 unfoldable pub is_circuit : Design → Bool
@@ -46,8 +46,8 @@ is_circuit design =
     are_new [] design.inputs
     && are_tables design.inputs design.tables
     && are_new [] design.outputs
-    && list_all (λ output. is_among bytes_eq output (drivers_of design)) design.outputs
-    && list_all (λ table. is_among bytes_eq table.target (uses_of design)) design.tables
+    && list_all (λ output. is_among bytes_eq output (driving_names design)) design.outputs
+    && list_all (λ table. is_among bytes_eq table.target (used_names design)) design.tables
 
 -- a table has the row `0` or `11`, and as many pins as its row has bits
 pub record HasShape (table : Table) : Type 0 where

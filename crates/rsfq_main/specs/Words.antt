@@ -16,6 +16,10 @@ pub record GivesPhases (word : List ℕ) (n : ℕ) : Type 0 where
   pub some : 1 ≤ n
   pub few : n ≤ MAX_PHASES
 
+-- the numbers of a command are in their ranges
+abbrev pub IsInRange : Command → Type 0
+IsInRange (Map n) = (1 ≤ n) × (n ≤ MAX_PHASES)
+
 -- the command that the words spell: `map` with one phase, or `map phases=N`, N from 1 to 16
 unfoldable pub command_of : List (List ℕ) → Option Command
 command_of (command ∷ []) = if bytes_eq command (codes "map") then Some (Map 1) else None

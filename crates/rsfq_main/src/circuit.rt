@@ -77,8 +77,8 @@ fn add_uses(uses: &mut IndexSet<Name>, names: &List<Name>) -> Result<(), NoMemor
 }
 
 // The names that are used.
-fn uses_of(alloc: Global, design: &Design) -> Result<IndexSet<Name>, NoMemory>
-    ensures { IfOk result (λ uses. rules.AreSameNames uses.keys (rules.uses_of design.now)) }
+fn used_names(alloc: Global, design: &Design) -> Result<IndexSet<Name>, NoMemory>
+    ensures { IfOk result (λ uses. rules.AreSameNames uses.keys (rules.used_names design.now)) }
 {
     let mut uses = IndexSet::new(alloc);
     for table in design.tables.as_slice() {
@@ -117,6 +117,6 @@ pub fn is_circuit(alloc: Global, design: &Design) -> Result<bool, NoMemory>
     if !are_among(&design.outputs, &drivers) {
         return Ok(false);
     }
-    let uses = uses_of(alloc, design)?;
+    let uses = used_names(alloc, design)?;
     Ok(are_used(&design.tables, &uses))
 }

@@ -1,11 +1,14 @@
 //! What ends a run before its output is written whole, with the status and the note of each.
 
-ghost use Rattle.std.specs.Prelude.{◌≡◌};
-ghost use Rattle.rsfq_main.specs.Faults.{fault_status, refusal_line, fault_line};
+ghost use Rattle.std.specs.Prelude.{◌≡◌, ◌⊎◌};
+ghost use Rattle.rsfq_main.specs.declared.fault.Fault.TheVariants.{Refused, NoMemory as OutOfMemory};
+ghost use Rattle.rsfq_main.specs.Faults.{fault_status, fault_line, fault_of};
 
 use crate::status::Status;
+use net_base::List;
+use std::alloc::Global;
 
-/// Why a text is refused.
+/// Why there is no output for a text.
 #[derive(Clone, Copy, Debug, PartialEq, Eq)]
 pub enum Refusal {
     /// It has more bytes than the limit.
@@ -15,26 +18,39 @@ pub enum Refusal {
 }
 
 impl Refusal {
-    /// Its note, a line.
-    pub fn line(self) -> &'static [u8]
-        ensures { result.now ≡ refusal_line self }
+    /// The fault that it ends the run with. A note that has to be made is made here, before anything is written, so want
+    /// of memory for it is `NoMemory` like any other.
+    pub fn fault(self, alloc: Global) -> Fault
+        ensures { (result ≡ fault_of self) ⊎ (result ≡ OutOfMemory) }
     {
         match self {
-            Refusal::TooLong => b"text too long\n",
-            Refusal::NotYet => b"not yet\n",
+            Refusal::TooLong => Fault::TooLong,
+            Refusal::NotYet => refused(alloc, b"not yet\n"),
         }
     }
 }
 
+// The fault of a refusal with this note.
+fn refused(alloc: Global, note: &[u8]) -> Fault
+    ensures { (result ≡ Refused note.now) ⊎ (result ≡ OutOfMemory) }
+{
+    match List::from_slice(alloc, note) {
+        Ok(note) => Fault::Refused(note),
+        Err(_) => Fault::NoMemory,
+    }
+}
+
 /// What ended a run.
-#[derive(Clone, Copy, Debug, PartialEq, Eq)]
+#[derive(Debug, Drop)]
 pub enum Fault {
     /// The words are no command.
     Usage,
     /// A read failed.
     Read,
-    /// The text is refused.
-    Refused(Refusal),
+    /// The text has more bytes than the limit.
+    TooLong,
+    /// The text is refused for what it says; why, in a line.
+    Refused(List<u8>),
     /// A write failed, or took nothing.
     Write,
     /// Memory ran out.
@@ -43,26 +59,27 @@ pub enum Fault {
 
 impl Fault {
     /// Its status.
-    pub fn status(self) -> Status
-        ensures { result ≡ fault_status self }
+    pub fn status(&self) -> Status
+        ensures { result ≡ fault_status self.now }
     {
         match self {
             Fault::Usage => Status::Usage,
             Fault::Read => Status::ReadFault,
-            Fault::Refused(_) => Status::Refused,
+            Fault::TooLong | Fault::Refused(_) => Status::Refused,
             Fault::Write => Status::WriteFault,
             Fault::NoMemory => Status::NoMemory,
         }
     }
 
     /// Its note, a line.
-    pub fn line(self) -> &'static [u8]
-        ensures { result.now ≡ fault_line self }
+    pub fn line(&self) -> &[u8]
+        ensures { result.now ≡ fault_line self.now }
     {
         match self {
             Fault::Usage => b"usage: COMMAND [KEY=VALUE ...]\n",
             Fault::Read => b"read fault\n",
-            Fault::Refused(refusal) => refusal.line(),
+            Fault::TooLong => b"text too long\n",
+            Fault::Refused(note) => note.as_slice(),
             Fault::Write => b"write fault\n",
             Fault::NoMemory => b"no memory\n",
         }

@@ -21,19 +21,16 @@
 
 mod circuit;
 mod clocking;
+mod commands;
 mod design;
 mod fault;
 mod map;
 mod mapping;
-#[cfg(test)]
-mod mapping_tests;
 mod netlist;
 mod plain;
 mod run;
 mod spelling;
 mod status;
-#[cfg(test)]
-mod tests;
 mod words;
 
 use io_edge::{StdSink, StdSource};

@@ -1,9 +1,8 @@
 //! The words of the command line, read by hand.
 
-ghost use Rattle.std.specs.Prelude.{◌≡◌, ◌++◌, ◌≤◌, ◌↔◌, ℕ, Some, map, string_bytes, codes, decimal};
+ghost use Rattle.std.specs.Prelude.{◌≡◌, ◌++◌, ◌↔◌, ℕ, Some, IfSome, map, string_bytes, codes, decimal};
 ghost use Rattle.std.specs.Str.{bytes_eq};
 ghost use Rattle.rsfq_main.specs.Words as spec;
-ghost use Rattle.rsfq_main.specs.declared.words.Command.TheVariants.{Map};
 
 use itoa::Buffer;
 use pulse_net::MAX_PHASES;
@@ -15,12 +14,12 @@ pub enum Command {
     Map(u32),
 }
 
-// Whether the word gives the key `phases` this number.
-fn gives_phases(word: &[u8], phases: u32) -> bool
-    ensures { result ≡ bytes_eq word.now (codes "phases=" ++ decimal phases) }
+// Whether the word gives the key `phases` the number n.
+fn gives_phases(word: &[u8], n: u32) -> bool
+    ensures { result ≡ bytes_eq word.now (codes "phases=" ++ decimal n) }
 {
     match word.strip_prefix(b"phases=") {
-        Some(number) => number == Buffer::new().format(phases).as_bytes(),
+        Some(number) => number == Buffer::new().format(n).as_bytes(),
         None => false,
     }
 }
@@ -45,13 +44,13 @@ fn phases_in(word: &[u8]) -> Option<u32>
 #[tactic(auto, unfolding(crate::specs::Words::command_of))]
 pub fn command_of(words: &[String]) -> Option<Command>
     ensures command { result ≡ spec.command_of (map string_bytes words.now) }
-    ensures phases { (phases : ℕ) → result ≡ Some (Map phases) → (1 ≤ phases) × (phases ≤ MAX_PHASES) }
+    ensures in_range { IfSome result spec.IsInRange }
 {
     match words {
         [command] if command.as_str() == "map" => Some(Command::Map(1)),
         [command, key] if command.as_str() == "map" => {
-            let phases = phases_in(key.as_bytes())?;
-            Some(Command::Map(phases))
+            let n = phases_in(key.as_bytes())?;
+            Some(Command::Map(n))
         }
         _ => None,
     }

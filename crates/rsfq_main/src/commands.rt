@@ -1,0 +1,41 @@
+//! What each command reads, and what it makes of its text. A new command is a new arm of each function here.
+
+ghost use Rattle.std.specs.Prelude.{◌≡◌};
+ghost use Rattle.rsfq_main.specs.Words.{IsInRange};
+ghost use Rattle.rsfq_main.specs.Commands.{limit_of};
+ghost use Rattle.rsfq_main.specs.Outcomes.{IsMade};
+
+use crate::fault::{Fault, Refusal};
+use crate::map::map;
+use crate::plain::PlainFault;
+use crate::words::Command;
+use net_base::List;
+use std::alloc::Global;
+
+/// The bytes of a text at most.
+pub const MAX_TEXT_BYTES: usize = 8_388_608;
+
+impl Command {
+    /// The bytes of the command's text at most; None where it reads no text.
+    pub fn limit(self) -> Option<usize>
+        ensures { result ≡ limit_of self }
+    {
+        match self {
+            Command::Map(_) => Some(MAX_TEXT_BYTES),
+        }
+    }
+
+    /// What the command makes of a text within its limit: all the bytes of its output, or the fault of a refusal.
+    pub fn made(self, alloc: Global, text: &[u8]) -> Result<List<u8>, Fault>
+        requires { IsInRange self }
+        ensures { IsMade self text.now result }
+    {
+        match self {
+            Command::Map(n) => match map(alloc, text, n) {
+                Ok(netlist) => Ok(List::from_vec(netlist)),
+                Err(PlainFault::NotPlain) => Err(Refusal::NotYet.fault(alloc)),
+                Err(PlainFault::NoMemory) => Err(Fault::NoMemory),
+            },
+        }
+    }
+}
