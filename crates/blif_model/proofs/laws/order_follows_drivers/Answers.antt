@@ -1,0 +1,4 @@
+use Rattle.blif_model.proofs.laws.order_follows_drivers.Goals as goal
+
+pub returns : goal.returns
+returns c = ?

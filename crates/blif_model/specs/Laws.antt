@@ -1,0 +1,28 @@
+-- The laws of order and value.
+use Rattle.std.specs.Prelude.{◌≡◌, ◌<◌, ◌↔◌, ℕ, Bool, nat_eq, List, ◌∷◌, ◌++◌, length, map, Contains, slice_get, slice_index, slice_index_or, Some, Ok}
+use Rattle.std.specs.List.{IsDistinct}
+use Rattle.blif_model.specs.declared.design.Table.{Table}
+use Rattle.blif_model.specs.declared.design.Design.{Design}
+use Rattle.blif_model.specs.declared.design.Ordered.{Ordered}
+use Rattle.blif_model.specs.Regular.{IsRegular}
+use Rattle.blif_model.specs.Values.{table_value, tables_at, signal_value}
+use Rattle.blif_model.specs.Order.{targets_of, table_order}
+
+-- An order lists the place of each table once.
+abbrev pub OrderListsTables : Type 0
+OrderListsTables =
+    (design : Design) (order : List ℕ) → table_order design ≡ Ok order
+    → IsDistinct nat_eq order × ((place : ℕ) → Contains order place ↔ place < length design.tables)
+
+-- An order lists each table behind the tables that drive its pins: each pin is an input, or the target of a table before.
+abbrev pub OrderFollowsDrivers : Type 0
+OrderFollowsDrivers =
+    (design : Design) (before after : List ℕ) (place : ℕ) (table : Table) (pin : ℕ) → table_order design ≡ Ok (before ++ place ∷ after)
+    → slice_get design.tables place ≡ Some table → Contains table.pins pin
+    → Contains (design.inputs ++ targets_of (tables_at design.tables before)) pin
+
+-- In order, the target of each table has the table's value over the values of its pins, however the order was found.
+abbrev pub ValuesFollowTables : Type 0
+ValuesFollowTables =
+    (ordered : Ordered) (bits : List Bool) (table : Table) → table_order ordered.design ≡ Ok ordered.order → Contains ordered.design.tables table
+    → signal_value ordered bits table.target ≡ table_value table (map (signal_value ordered bits) table.pins)

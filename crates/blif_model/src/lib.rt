@@ -1,0 +1,14 @@
+//! Designs: what a BLIF text says, by numbered names (BLIF 1992).
+#![tactic(auto)]
+
+mod design;
+mod laws;
+mod names;
+mod regular;
+
+pub use design::{
+    Bit, Cube, Design, MAX_INPUTS, MAX_OUTPUTS, MAX_PINS, MAX_TABLES, Ordered, Table,
+};
+pub use laws::{order_follows_drivers, order_lists_tables, values_follow_tables};
+pub use names::NameTable;
+pub use regular::is_regular;
