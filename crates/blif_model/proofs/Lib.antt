@@ -1,1 +1,4 @@
 pub mod Examples
+pub mod Signals
+pub mod Walks
+pub mod Levels

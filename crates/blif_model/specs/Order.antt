@@ -31,14 +31,15 @@ undriven design = find (λ signal. not (is_among nat_eq signal (driven_signals d
 abbrev pub driver_of : List Table → ℕ → Option Table
 driver_of tables signal = find (λ table. signal == table.target) tables
 
--- the pins that the value of a signal is made of: those of the table that drives it
-abbrev pub pins_behind : List Table → ℕ → List ℕ
-pins_behind tables signal = elim (driver_of tables signal) [ None ↦ [] | Some table ↦ table.pins ]
+-- the pins of a table, and none where there is no table
+abbrev pub pins_of : Option Table → List ℕ
+pins_of None = []
+pins_of (Some table) = table.pins
 
 -- a walk of so many steps leads from one signal to another, each step from a signal to a pin of the table that drives it
 abbrev pub leads : List Table → ℕ → ℕ → ℕ → Bool
 leads tables zero from to = from == to
-leads tables (suc steps) from to = list_any (λ pin. leads tables steps pin to) (pins_behind tables from)
+leads tables (suc steps) from to = list_any (λ pin. leads tables steps pin to) (pins_of (driver_of tables from))
 
 -- A table is on a cycle where a walk leads from its target to itself. The shortest such walk passes no table twice, so it
 -- has at most as many steps as there are tables.
@@ -50,11 +51,16 @@ abbrev pub largest : List ℕ → ℕ
 largest [] = 0
 largest (n ∷ ns) = max n (largest ns)
 
--- the level of a signal, seen from which this many tables are looked behind at most: 0 where no table drives it, and else
--- 1 more than the largest level of the pins of the table that does
+-- the level of what a table drives, from the levels of signals: 1 more than the largest level of its pins, and 0 where no
+-- table drives it
+abbrev pub level_behind : (ℕ → ℕ) → Option Table → ℕ
+level_behind levels None = 0
+level_behind levels (Some table) = 1 + largest (map levels table.pins)
+
+-- the level of a signal, where this many tables behind one another are looked at
 abbrev pub level_within : List Table → ℕ → ℕ → ℕ
 level_within tables zero signal = 0
-level_within tables (suc most) signal = elim (driver_of tables signal) [ None ↦ 0 | Some table ↦ 1 + largest (map (level_within tables most) table.pins) ]
+level_within tables (suc most) signal = level_behind (level_within tables most) (driver_of tables signal)
 
 -- the level of a signal: without a cycle no walk is longer than there are tables
 abbrev pub level_of : List Table → ℕ → ℕ
@@ -88,6 +94,11 @@ refusal_of design =
     (option_or (option_map (λ signal. Undriven (name_of design signal)) (undriven design))
     (option_map (λ table. Cycle table.line) (find (is_on_cycle design.tables) design.tables)))
 
--- the places of the tables by level and place, or else the first refusal
+-- an order, unless it is refused
+abbrev pub unless : Option Refusal → List ℕ → Result (List ℕ) Refusal
+unless None order = Ok order
+unless (Some refusal) order = Err refusal
+
+-- the places of the tables by level and place, unless something refuses the order
 abbrev pub table_order : Design → Result (List ℕ) Refusal
-table_order design = elim (refusal_of design) [ Some refusal ↦ Err refusal | None ↦ Ok (places_by_level design.tables) ]
+table_order design = unless (refusal_of design) (places_by_level design.tables)
