@@ -97,7 +97,7 @@ design_of tables = record { name = 109 ∷ []; names = names; inputs = 0 ∷ (1 
 abbrev backwards : Design
 backwards = design_of (
     record { line = 3; pins = 3 ∷ []; target = 2; rows = record { bits = Zero ∷ [] } ∷ []; on = true }
-        ∷ (record { line = 5; pins = 0 ∷ (1 ∷ []); target = 3; rows = record { bits = One ∷ (One ∷ []) } ∷ []; on = true } ∷ []))
+    ∷ (record { line = 5; pins = 0 ∷ (1 ∷ []); target = 3; rows = record { bits = One ∷ (One ∷ []) } ∷ []; on = true } ∷ []))
 
 backwards_levels : level_of backwards.tables 2 ≡ 2
 backwards_levels = refl
@@ -142,14 +142,14 @@ cycle_of_one = refl
 -- f and g are pins of each other's tables: the first of both tables in the file is named
 cycle_of_two : table_order (design_of (
     record { line = 3; pins = 3 ∷ []; target = 2; rows = []; on = true }
-        ∷ (record { line = 4; pins = 2 ∷ []; target = 3; rows = []; on = true } ∷ []))) ≡ Err (Cycle 3)
+    ∷ (record { line = 4; pins = 2 ∷ []; target = 3; rows = []; on = true } ∷ []))) ≡ Err (Cycle 3)
 cycle_of_two = refl
 
 -- f reads g, which is on a cycle of one: the table of f stands behind a cycle and isn't on one
 abbrev behind : Design
 behind = design_of (
     record { line = 3; pins = 3 ∷ []; target = 2; rows = []; on = true }
-        ∷ (record { line = 4; pins = 3 ∷ []; target = 3; rows = []; on = true } ∷ []))
+    ∷ (record { line = 4; pins = 3 ∷ []; target = 3; rows = []; on = true } ∷ []))
 
 behind_a_cycle : is_on_cycle behind.tables (record { line = 3; pins = 3 ∷ []; target = 2; rows = []; on = true }) ≡ false
 behind_a_cycle = refl

@@ -2,3 +2,6 @@ pub mod Examples
 pub mod Signals
 pub mod Walks
 pub mod Levels
+pub mod Tables
+pub mod Orders
+pub mod Values

@@ -78,7 +78,7 @@ distinct-parts [] ys x distinct among = absurd (true≢false (sym among))
 distinct-parts (y ∷ xs) ys x distinct among =
     ⊎_elim {C = is_among nat_eq x ys ≡ false}
     (λ here. subst (λ z. is_among nat_eq z ys ≡ false) (sym (eqb-true x y here))
-      (or_parts (is_among nat_eq y xs) (is_among nat_eq y ys) (sym (list_any-append (nat_eq y) xs ys) ∙ distinct-head y (xs ++ ys) distinct)).1)
+    (or_parts (is_among nat_eq y xs) (is_among nat_eq y ys) (sym (list_any-append (nat_eq y) xs ys) ∙ distinct-head y (xs ++ ys) distinct)).1)
     (λ rest. distinct-parts xs ys x (IsDistinct-tail nat_eq y (xs ++ ys) distinct) rest)
     (or_cases (nat_eq x y) (is_among nat_eq x xs) among)
 

@@ -61,8 +61,8 @@ trail-new tables path signal none trail = by (is_among nat_eq signal path) refl
     by true e =
         let walk = trail.walks signal e in
         absurd (both_ways (leads tables walk.0 signal signal)
-          (none signal walk.0 (trail.driven signal e) walk.1 (omega (arith, walk.2, trail-short tables path signal trail)))
-          walk.3)
+        (none signal walk.0 (trail.driven signal e) walk.1 (omega (arith, walk.2, trail-short tables path signal trail)))
+        walk.3)
 
 -- so it goes on through each pin of the table that drives the end.
 trail-on : (tables : List Table) (path : List ℕ) (signal : ℕ) (table : Table) (pin : ℕ) → HasNoCycle tables → driver_of tables signal ≡ Some table → IsTrail tables path signal → is_among nat_eq pin table.pins ≡ true → IsTrail tables (signal ∷ path) pin
@@ -83,8 +83,11 @@ trail-on tables path signal table pin none drives trail among =
 largest-le : (levels : ℕ → ℕ) (most : ℕ) (pins : List ℕ) → ((pin : ℕ) → is_among nat_eq pin pins ≡ true → levels pin ≤ most) → largest (map levels pins) ≤ most
 largest-le levels most [] all = omega arith
 largest-le levels most (pin ∷ pins) all =
-    omega (arith, all pin (or_left (nat_eq pin pin) (is_among nat_eq pin pins) (eq-eqb pin pin refl)),
-      largest-le levels most pins (λ other e. all other (or_right (nat_eq other pin) (is_among nat_eq other pins) e)))
+    omega (
+      arith,
+      all pin (or_left (nat_eq pin pin) (is_among nat_eq pin pins) (eq-eqb pin pin refl)),
+      largest-le levels most pins (λ other e. all other (or_right (nat_eq other pin) (is_among nat_eq other pins) e)),
+    )
 
 -- and each of them is at most the largest.
 pub largest-ge : (levels : ℕ → ℕ) (pins : List ℕ) (pin : ℕ) → is_among nat_eq pin pins ≡ true → levels pin ≤ largest (map levels pins)
@@ -100,15 +103,15 @@ largest-same : (these those : ℕ → ℕ) (pins : List ℕ) → ((pin : ℕ) �
 largest-same these those [] same = refl
 largest-same these those (pin ∷ pins) same =
     λ i. max (same pin (or_left (nat_eq pin pin) (is_among nat_eq pin pins) (eq-eqb pin pin refl)) i)
-      (largest-same these those pins (λ other e. same other (or_right (nat_eq other pin) (is_among nat_eq other pins) e)) i)
+    (largest-same these those pins (λ other e. same other (or_right (nat_eq other pin) (is_among nat_eq other pins) e)) i)
 
 -- With the end of a trail there are no more signals than tables.
 trail-longer : (tables : List Table) (path : List ℕ) (signal : ℕ) (table : Table) → HasNoCycle tables → driver_of tables signal ≡ Some table → IsTrail tables path signal → length (signal ∷ path) ≤ length tables
 trail-longer tables path signal table none drives trail =
     let few = length-le_from_is_member nat_eq_equiv (signal ∷ path) (targets_of tables) (distinct-cons signal path (trail-new tables path signal none trail) trail.distinct)
     (λ x e. ⊎_elim {C = is_among nat_eq x (targets_of tables) ≡ true}
-      (λ here. subst (λ s. is_among nat_eq s (targets_of tables) ≡ true) (sym (eqb-true x signal here)) (driver_of-Some tables signal table drives).0)
-      (trail.driven x) (or_cases (nat_eq x signal) (is_among nat_eq x path) e)) in
+    (λ here. subst (λ s. is_among nat_eq s (targets_of tables) ≡ true) (sym (eqb-true x signal here)) (driver_of-Some tables signal table drives).0)
+    (trail.driven x) (or_cases (nat_eq x signal) (is_among nat_eq x path) e)) in
     omega (arith, few, length-map tables (λ table. table.target))
 
 -- Behind a trail, no level is above the number of the tables that are not on it,
@@ -129,11 +132,14 @@ level_within-trail tables (suc most) path signal none trail =
 pub level_within-few : (tables : List Table) (most signal : ℕ) → HasNoCycle tables → level_within tables most signal ≤ length tables
 unfolding IsDistinct
 level_within-few tables most signal none =
-    omega (arith, level_within-trail tables most [] signal none (record {
-      distinct = tt;
-      driven = λ x e. absurd (true≢false (sym e));
-      walks = λ x e. absurd (true≢false (sym e));
-    }))
+    omega (
+      arith,
+      level_within-trail tables most [] signal none (record {
+        distinct = tt;
+        driven = λ x e. absurd (true≢false (sym e));
+        walks = λ x e. absurd (true≢false (sym e));
+      }),
+    )
 
 -- Where a level doesn't come up to the tables that were looked at, one table fewer is enough to find it.
 level_within-enough : (tables : List Table) (most signal : ℕ) → level_within tables (suc most) signal ≤ most → level_within tables most signal ≡ level_within tables (suc most) signal
@@ -147,7 +153,7 @@ level_within-enough tables (suc most) signal low = by (driver_of tables signal) 
     by None rest low = refl
     by (Some table) rest low =
         ap (λ n. 1 + n) (largest-same (level_within tables most) (level_within tables (suc most)) table.pins
-          (λ pin among. rest pin (omega (arith, largest-ge (level_within tables (suc most)) table.pins pin among))))
+        (λ pin among. rest pin (omega (arith, largest-ge (level_within tables (suc most)) table.pins pin among))))
 
 -- The level of what a table drives is 1 more than the largest level of its pins.
 pub level_of-driven : (tables : List Table) (signal : ℕ) → HasNoCycle tables → level_of tables signal ≡ level_behind (level_of tables) (driver_of tables signal)

@@ -1,12 +1,12 @@
 -- The laws of order and value.
-use Rattle.std.specs.Prelude.{◌≡◌, ◌<◌, ◌↔◌, ℕ, Bool, nat_eq, List, ◌∷◌, ◌++◌, length, map, Contains, slice_get, slice_index, slice_index_or, Some, Ok}
+use Rattle.std.specs.Prelude.{◌≡◌, ◌<◌, ◌↔◌, ℕ, Bool, false, nat_eq, List, ◌∷◌, ◌++◌, length, map, Contains, slice_get, slice_index_or, Some, Ok}
 use Rattle.std.specs.List.{IsDistinct}
 use Rattle.blif_model.specs.declared.design.Table.{Table}
 use Rattle.blif_model.specs.declared.design.Design.{Design}
 use Rattle.blif_model.specs.declared.design.Ordered.{Ordered}
 use Rattle.blif_model.specs.Regular.{IsRegular}
-use Rattle.blif_model.specs.Values.{table_value, tables_at, signal_value}
-use Rattle.blif_model.specs.Order.{targets_of, table_order}
+use Rattle.blif_model.specs.Values.{Values, table_value, tables_at, signal_value}
+use Rattle.blif_model.specs.Order.{targets_of, driven_signals, table_order}
 
 -- An order lists the place of each table once.
 abbrev pub OrderListsTables : Type 0
@@ -21,8 +21,24 @@ OrderFollowsDrivers =
     → slice_get design.tables place ≡ Some table → Contains table.pins pin
     → Contains (design.inputs ++ targets_of (tables_at design.tables before)) pin
 
--- In order, the target of each table has the table's value over the values of its pins, however the order was found.
+-- In order, the target of each table has the table's value over the values of its pins.
 abbrev pub ValuesFollowTables : Type 0
 ValuesFollowTables =
     (ordered : Ordered) (bits : List Bool) (table : Table) → table_order ordered.design ≡ Ok ordered.order → Contains ordered.design.tables table
     → signal_value ordered bits table.target ≡ table_value table (map (signal_value ordered bits) table.pins)
+
+-- In order, the inputs of a regular design have the bits of the row, in order.
+abbrev pub InputsHaveBits : Type 0
+InputsHaveBits =
+    (ordered : Ordered) (bits : List Bool) (place input : ℕ) → IsRegular ordered.design → table_order ordered.design ≡ Ok ordered.order
+    → slice_get ordered.design.inputs place ≡ Some input
+    → signal_value ordered bits input ≡ slice_index_or bits place false
+
+-- No other values do this: values that agree on the inputs and follow the tables agree on every signal that is driven. So
+-- the values don't hang on the order.
+abbrev pub ValuesAreDetermined : Type 0
+ValuesAreDetermined =
+    (ordered : Ordered) (bits : List Bool) (values : Values) → table_order ordered.design ≡ Ok ordered.order
+    → ((input : ℕ) → Contains ordered.design.inputs input → values input ≡ signal_value ordered bits input)
+    → ((table : Table) → Contains ordered.design.tables table → values table.target ≡ table_value table (map values table.pins))
+    → (signal : ℕ) → Contains (driven_signals ordered.design) signal → values signal ≡ signal_value ordered bits signal

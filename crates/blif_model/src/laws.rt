@@ -1,6 +1,6 @@
 //! The laws of order and value. A law takes nothing and does nothing: its clause is the law.
 
-ghost use Rattle.blif_model.specs.Laws.{OrderFollowsDrivers, OrderListsTables, ValuesFollowTables};
+ghost use Rattle.blif_model.specs.Laws.{InputsHaveBits, OrderFollowsDrivers, OrderListsTables, ValuesAreDetermined, ValuesFollowTables};
 
 /// An order lists the place of each table once.
 pub fn order_lists_tables()
@@ -12,7 +12,17 @@ pub fn order_follows_drivers()
     ensures { OrderFollowsDrivers }
 {}
 
-/// In order, the target of each table has the table's value over the values of its pins, however the order was found.
+/// In order, the target of each table has the table's value over the values of its pins.
 pub fn values_follow_tables()
     ensures { ValuesFollowTables }
+{}
+
+/// In order, the inputs of a regular design have the bits of the row.
+pub fn inputs_have_bits()
+    ensures { InputsHaveBits }
+{}
+
+/// No other values agree on the inputs and follow the tables, so the values of what is driven don't hang on the order.
+pub fn values_are_determined()
+    ensures { ValuesAreDetermined }
 {}

@@ -9,6 +9,9 @@ mod regular;
 pub use design::{
     Bit, Cube, Design, MAX_INPUTS, MAX_OUTPUTS, MAX_PINS, MAX_TABLES, Ordered, Table,
 };
-pub use laws::{order_follows_drivers, order_lists_tables, values_follow_tables};
+pub use laws::{
+    inputs_have_bits, order_follows_drivers, order_lists_tables, values_are_determined,
+    values_follow_tables,
+};
 pub use names::NameTable;
 pub use regular::is_regular;

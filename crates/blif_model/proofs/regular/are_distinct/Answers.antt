@@ -11,6 +11,6 @@ returns-then-not-is_new c =
     let seen : is_among nat_eq (get_or signals i 0) (take i signals) ≡ true =
     subst (λ keys. is_among nat_eq (get_or signals i 0) keys ≡ true) c.loop-signal.invariant.0
     (not-false (is_among nat_eq (get_or signals i 0) c.loop-signal.seen.keys) (sym c.in_ok-is_new.ensures.added ∙ c.if-not-is_new.true)) in (
-  λ t. cc,
-  λ distinct. absurd (repeated signals i 0 (omega arith) seen distinct),
-)
+      λ t. cc,
+      λ distinct. absurd (repeated signals i 0 (omega arith) seen distinct),
+    )
