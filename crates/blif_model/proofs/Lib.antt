@@ -5,3 +5,4 @@ pub mod Levels
 pub mod Tables
 pub mod Orders
 pub mod Values
+pub mod Cycles

@@ -4,19 +4,20 @@ use Rattle.std.specs.Prelude.{find, slice_get}
 use Rattle.std.specs.Cmp.{nat_eq_equiv}
 use Rattle.std.specs.List.{IsDistinct, flat_map, range_with_len}
 use Rattle.std.specs.Option.{option_map, option_or}
-use Rattle.std.proofs.lemmas.Bool.{or_cases, or_left, or_right, eqb-true, not-false}
-use Rattle.std.proofs.lemmas.Option.{slice_get_within, slice_get_cases}
+use Rattle.std.proofs.lemmas.Bool.{or_cases, or_left, or_right, eqb-true, not-false, eq-eqb, both_ways, false_from_ne_true}
+use Rattle.std.proofs.lemmas.Option.{slice_get_within, slice_get_cases, slice_get-get_or}
 use Rattle.std.proofs.lemmas.List.{get_or-map, length-map}
 use Rattle.std.proofs.lemmas.List.Folds.{list_any-append}
+use Rattle.std.proofs.lemmas.Map.Keys.{any_passes_from_place}
 use Rattle.std.proofs.lemmas.Map.Views.{Contains-from_any, list_any-from_Contains}
 use Rattle.net_base.specs.Keys.{is_among}
 use Rattle.blif_model.specs.declared.design.Table.{Table}
 use Rattle.blif_model.specs.declared.design.Design.{Design}
 use Rattle.blif_model.specs.Values.{tables_at}
 use Rattle.blif_model.specs.Order.{Refusal, DuplicateDriver, Undriven, Cycle, targets_of, driven_signals, used_signals, driven_twice, undriven, driver_of, is_on_cycle, level_behind, level_of, places_by_level, unless, refusal_of, name_of, table_order}
-use Rattle.blif_model.specs.Laws.{OrderListsTables, OrderFollowsDrivers}
+use Rattle.blif_model.specs.Laws.{LevelsFollowDrivers, OrderListsTables, OrderFollowsDrivers}
 use Rattle.blif_model.proofs.Signals.{is_among-range, range-bounds}
-use Rattle.blif_model.proofs.Walks.{HasNoCycle, no_cycle-from_find, level_of-driven, level_within-le, largest-ge}
+use Rattle.blif_model.proofs.Walks.{HasNoCycle, no_cycle-from_find, level_of-driven, level_of-undriven, level_within-le, largest-ge}
 use Rattle.blif_model.proofs.Levels.{distinct-range, is_among-by_key, key-is_among, distinct-by_key, lower-before}
 use Rattle.blif_model.proofs.Tables.{find-none, driven_twice-None, target-among, target-at, target-place, driver_of-target, pin-among, target-listed}
 
@@ -70,6 +71,20 @@ level-bounds design order place table ordered at =
       omega (arith, above),
       level_within-le tables (length tables) table.target,
       λ pin among. omega (arith, above, largest-ge (level_of tables) table.pins pin among),
+    )
+
+pub levels_follow_drivers : LevelsFollowDrivers
+levels_follow_drivers design order e =
+    let ordered = ordered-from_Ok design order e in (
+      λ place d within.
+          let at = slice_get-get_or design.tables place d within in
+          level_of-driven design.tables (get_or design.tables place d).target ordered.no_cycle
+          ∙ ap (level_behind (level_of design.tables)) (driver_of-target design.tables place (get_or design.tables place d) ordered.targets at),
+      λ place d within.
+          let input = get_or design.inputs place d in
+          level_of-undriven design.tables input ordered.no_cycle
+          (false_from_ne_true (is_among nat_eq input (targets_of design.tables)) (λ target.
+          both_ways (is_among nat_eq input design.inputs) (ordered.inputs input target) (any_passes_from_place (nat_eq input) design.inputs place input (slice_get-get_or design.inputs place d within) (eq-eqb input input refl)))),
     )
 
 -- The order lists each place below the number of tables, and no other.

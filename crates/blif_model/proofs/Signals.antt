@@ -17,6 +17,15 @@ list_any-weaker p q (x ∷ xs) implies e =
     (λ rest. or_right (q x) (list_any q xs) (list_any-weaker p q xs implies rest))
     (or_cases (p x) (list_any p xs) e)
 
+-- What passes is one of them.
+pub list_any-some : (p : ℕ → Bool) (signals : List ℕ) → list_any p signals ≡ true → (signal : ℕ) × (is_among nat_eq signal signals ≡ true) × (p signal ≡ true)
+list_any-some p [] e = absurd (true≢false (sym e))
+list_any-some p (signal ∷ signals) e =
+    ⊎_elim {C = (x : ℕ) × ((nat_eq x signal || is_among nat_eq x signals) ≡ true) × (p x ≡ true)}
+    (λ here. (signal, or_left (nat_eq signal signal) (is_among nat_eq signal signals) (eq-eqb signal signal refl), here))
+    (λ rest. let found = list_any-some p signals rest in (found.0, or_right (nat_eq found.0 signal) (is_among nat_eq found.0 signals) found.1, found.2))
+    (or_cases (p signal) (list_any p signals) e)
+
 -- A signal among others that passes a test is one of those that do.
 pub list_any-among : (p : ℕ → Bool) (signals : List ℕ) (signal : ℕ) → is_among nat_eq signal signals ≡ true → p signal ≡ true → list_any p signals ≡ true
 list_any-among p signals signal among passes =

@@ -159,6 +159,14 @@ level_within-enough tables (suc most) signal low = by (driver_of tables signal) 
 pub level_of-driven : (tables : List Table) (signal : ℕ) → HasNoCycle tables → level_of tables signal ≡ level_behind (level_of tables) (driver_of tables signal)
 level_of-driven tables signal none = level_within-enough tables (length tables) signal (level_within-few tables (suc (length tables)) signal none)
 
+-- What no table drives has level 0.
+pub level_of-undriven : (tables : List Table) (signal : ℕ) → HasNoCycle tables → is_among nat_eq signal (targets_of tables) ≡ false → level_of tables signal ≡ 0
+level_of-undriven tables signal none absent = level_of-driven tables signal none ∙ by (driver_of tables signal) refl
+  where
+    by : (driver : Option Table) → driver_of tables signal ≡ driver → level_behind (level_of tables) driver ≡ 0
+    by None e = refl
+    by (Some table) e = absurd (both_ways (is_among nat_eq signal (targets_of tables)) absent (driver_of-Some tables signal table e).0)
+
 -- No level is above the number of tables looked at.
 pub level_within-le : (tables : List Table) (most signal : ℕ) → level_within tables most signal ≤ most
 level_within-le tables zero signal = omega arith

@@ -1,12 +1,23 @@
 -- The laws of order and value.
-use Rattle.std.specs.Prelude.{◌≡◌, ◌<◌, ◌↔◌, ℕ, Bool, false, nat_eq, List, ◌∷◌, ◌++◌, length, map, Contains, slice_get, slice_index_or, Some, Ok}
+use Rattle.std.specs.Prelude.{◌≡◌, ◌<◌, ◌+◌, ◌↔◌, ℕ, Bool, false, IsTrue, nat_eq, List, ◌∷◌, ◌++◌, length, map, All, Contains, slice_get, slice_index_or, Some, Ok}
 use Rattle.std.specs.List.{IsDistinct}
 use Rattle.blif_model.specs.declared.design.Table.{Table}
 use Rattle.blif_model.specs.declared.design.Design.{Design}
 use Rattle.blif_model.specs.declared.design.Ordered.{Ordered}
 use Rattle.blif_model.specs.Regular.{IsRegular}
 use Rattle.blif_model.specs.Values.{Values, table_value, tables_at, signal_value}
-use Rattle.blif_model.specs.Order.{targets_of, driven_signals, table_order}
+use Rattle.blif_model.specs.Order.{targets_of, driven_signals, IsOnCycle, is_on_cycle, largest, level_of, table_order}
+
+-- The test for tables on a cycle finds each, however long the walk is that leads from it to itself.
+abbrev pub CyclesAreFound : Type 0
+CyclesAreFound = (tables : List Table) (table : Table) → IsTrue (is_on_cycle tables table) ↔ IsOnCycle tables table
+
+-- Where a design has an order, the level of a table is 1 more than the largest level of its pins, and an input has level 0.
+abbrev pub LevelsFollowDrivers : Type 0
+LevelsFollowDrivers =
+    (design : Design) (order : List ℕ) → table_order design ≡ Ok order
+    → All (λ table. level_of design.tables table.target ≡ 1 + largest (map (level_of design.tables) table.pins)) design.tables
+    × All (λ input. level_of design.tables input ≡ 0) design.inputs
 
 -- An order lists the place of each table once.
 abbrev pub OrderListsTables : Type 0

@@ -1,5 +1,5 @@
 -- The order of a design's tables: what drives a signal, cycles, levels, and what refuses an order.
-use Rattle.std.specs.Prelude.{◌==◌, ◌+◌, ℕ, zero, suc, Bool, not, nat_eq, max, List, [], ◌∷◌, ◌++◌, length, map, filter, find, slice_index, slice_index_or, Option, Some, None, Result, Ok, Err, if◌then◌else◌}
+use Rattle.std.specs.Prelude.{◌==◌, ◌<◌, ◌+◌, ℕ, zero, suc, Bool, IsTrue, not, nat_eq, max, List, [], ◌∷◌, ◌++◌, length, map, filter, find, slice_index, slice_index_or, Option, Some, None, Result, Ok, Err, if◌then◌else◌}
 use Rattle.std.specs.List.{flat_map, list_any, range_with_len}
 use Rattle.std.specs.Option.{option_map, option_or}
 use Rattle.net_base.specs.Keys.{is_among}
@@ -41,8 +41,11 @@ abbrev pub leads : List Table → ℕ → ℕ → ℕ → Bool
 leads tables zero from to = from == to
 leads tables (suc steps) from to = list_any (λ pin. leads tables steps pin to) (pins_of (driver_of tables from))
 
--- A table is on a cycle where a walk leads from its target to itself. The shortest such walk passes no table twice, so it
--- has at most as many steps as there are tables.
+-- A table is on a cycle where a walk of some steps, however many, leads from its target to itself.
+abbrev pub IsOnCycle : List Table → Table → Type 0
+IsOnCycle tables table = (steps : ℕ) × (0 < steps) × IsTrue (leads tables steps table.target table.target)
+
+-- The test for it: the shortest such walk passes no table twice, so it has at most as many steps as there are tables.
 abbrev pub is_on_cycle : List Table → Table → Bool
 is_on_cycle tables table = list_any (λ steps. leads tables steps table.target table.target) (range_with_len 1 (length tables))
 

@@ -1,6 +1,16 @@
 //! The laws of order and value. A law takes nothing and does nothing: its clause is the law.
 
-ghost use Rattle.blif_model.specs.Laws.{InputsHaveBits, OrderFollowsDrivers, OrderListsTables, ValuesAreDetermined, ValuesFollowTables};
+ghost use Rattle.blif_model.specs.Laws.{CyclesAreFound, InputsHaveBits, LevelsFollowDrivers, OrderFollowsDrivers, OrderListsTables, ValuesAreDetermined, ValuesFollowTables};
+
+/// The test for tables on a cycle, which looks at walks of at most as many steps as there are tables, finds each.
+pub fn cycles_are_found()
+    ensures { CyclesAreFound }
+{}
+
+/// Where a design has an order, the level of a table is 1 more than the largest level of its pins, inputs counting 0.
+pub fn levels_follow_drivers()
+    ensures { LevelsFollowDrivers }
+{}
 
 /// An order lists the place of each table once.
 pub fn order_lists_tables()

@@ -10,8 +10,8 @@ pub use design::{
     Bit, Cube, Design, MAX_INPUTS, MAX_OUTPUTS, MAX_PINS, MAX_TABLES, Ordered, Table,
 };
 pub use laws::{
-    inputs_have_bits, order_follows_drivers, order_lists_tables, values_are_determined,
-    values_follow_tables,
+    cycles_are_found, inputs_have_bits, levels_follow_drivers, order_follows_drivers,
+    order_lists_tables, values_are_determined, values_follow_tables,
 };
 pub use names::NameTable;
 pub use regular::is_regular;
