@@ -3,16 +3,17 @@
 use crate::NameTable;
 use net_base::{List, Name};
 
-/// The inputs of a design at most: as many names as a row of input bits can still be read by eye, with room to spare.
+/// The inputs of a design at most. Like the other limits it is a choice of this project, and bounds memory: with them a
+/// design has at most 65,536 * 256 pins, so counts of pins stay far below 2^31.
 pub const MAX_INPUTS: u32 = 4_096;
 
 /// The outputs of a design at most, as many as inputs.
 pub const MAX_OUTPUTS: u32 = 4_096;
 
-/// The tables of a design at most: a text of 8,388,608 bytes has more only where tables are shorter than 128 bytes.
+/// The tables of a design at most, which is also the highest level that a table can have.
 pub const MAX_TABLES: u32 = 65_536;
 
-/// The pins of a table at most, so that a row of its bits fits a line.
+/// The pins of a table at most, and so the bits of a row.
 pub const MAX_PINS: u32 = 256;
 
 /// What a row of a table asks of a pin.
@@ -50,7 +51,7 @@ pub struct Table {
 }
 
 /// A model with its inputs, outputs and tables, each in the order of the text. A signal is the number of its name.
-#[derive(Debug, PartialEq, Drop)]
+#[derive(Debug, PartialEq, Eq, Drop)]
 pub struct Design {
     /// The model's name.
     pub name: Name,
@@ -65,7 +66,7 @@ pub struct Design {
 }
 
 /// A design with the places of its tables in an order in which each stands behind the tables that drive its pins.
-#[derive(Debug, PartialEq, Drop)]
+#[derive(Debug, PartialEq, Eq, Drop)]
 pub struct Ordered {
     /// The design.
     pub design: Design,

@@ -3,7 +3,7 @@
 ghost use Rattle.std.specs.Prelude.{◌≡◌, ◌<◌, ◌^◌, ◌↔◌, [], length, IsTrue, Some, IfOk, OnOk, OnErr, position, slice_get};
 ghost use Rattle.std.specs.Str.{bytes_eq};
 ghost use Rattle.std.specs.Cmp.{partial_equiv_from_equiv};
-ghost use Rattle.std.specs.Cmp.Lexicographic.{pointwise, lists_per, nat_list_eq_equiv};
+ghost use Rattle.std.specs.Cmp.Lexicographic.{pointwise, lists_equiv, lists_per, nat_list_eq_equiv};
 ghost use Rattle.net_base.specs.Name.{IsName};
 ghost use Rattle.blif_model.specs.Names.{AreDistinctNames, number_of, with_name};
 
@@ -22,11 +22,14 @@ pub struct NameTable {
 }
 
 impl Model for NameTable {
-    ghost use Rattle.std.specs.Prelude.{List, ℕ};
+    ghost use Rattle.std.specs.Prelude.{List, ℕ, ◌≤◌, ◌^◌, length};
 
     ghost Value = { List (List ℕ) };
 
     ghost view = { λ table. table.names.keys };
+
+    // So that each name has a u32 for its number.
+    ghost invariant = { λ table. length table.names.keys ≤ 2 ^ 31 };
 }
 
 impl NameTable {
@@ -64,7 +67,6 @@ impl NameTable {
 
     /// The number of a name, where it has one. It takes no memory.
     pub fn find(&self, name: &Name) -> Option<u32>
-        requires { length self.now < 2 ^ 32 }
         ensures { result ≡ position (bytes_eq name.now) self.now }
     {
         self.names.get_index_of(name).map(|number| number as u32)
@@ -101,4 +103,8 @@ impl PartialEq for NameTable {
     fn eq(&self, other: &NameTable) -> bool {
         self.as_slice() == other.as_slice()
     }
+}
+
+impl Eq for NameTable {
+    ghost laws = { lists_equiv nat_list_eq_equiv };
 }
