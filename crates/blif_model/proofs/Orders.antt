@@ -1,6 +1,6 @@
 -- What an order gives, where nothing refuses it: the places by level, each once, and each table behind those that drive it.
 use Rattle.std.proofs.Common.{◌≡◌, ◌<◌, ◌≤◌, ◌+◌, ◌++◌, ◌∙◌, ◌||◌, ◌⊎◌, inl, inr, ℕ, zero, suc, Bool, true, false, not, List, [], ◌∷◌, length, get_or, map, Option, Some, None, Result, Ok, Err, Contains, nat_eq, refl, sym, ap, subst, arith, ⊎_elim}
-use Rattle.std.specs.Prelude.{find, slice_get}
+use Rattle.std.specs.Prelude.{find, slice_get, slice_index}
 use Rattle.std.specs.Cmp.{nat_eq_equiv}
 use Rattle.std.specs.List.{IsDistinct, flat_map, range_with_len}
 use Rattle.std.specs.Option.{option_map, option_or}
@@ -14,11 +14,11 @@ use Rattle.net_base.specs.Keys.{is_among}
 use Rattle.blif_model.specs.declared.design.Table.{Table}
 use Rattle.blif_model.specs.declared.design.Design.{Design}
 use Rattle.blif_model.specs.Values.{tables_at}
-use Rattle.blif_model.specs.Order.{Refusal, DuplicateDriver, Undriven, Cycle, targets_of, driven_signals, used_signals, driven_twice, undriven, driver_of, is_on_cycle, level_behind, level_of, places_by_level, unless, refusal_of, name_of, table_order}
-use Rattle.blif_model.specs.Laws.{LevelsFollowDrivers, OrderListsTables, OrderFollowsDrivers}
+use Rattle.blif_model.specs.Order.{Refusal, DuplicateDriver, Undriven, Cycle, targets_of, driven_signals, used_signals, driven_twice, undriven, driver_of, is_on_cycle, level_behind, level_of, levels_of, places_by_level, unless, refusal_of, name_of, table_order}
+use Rattle.blif_model.specs.Laws.{LevelsFollowDrivers, OrderIsByLevel, OrderListsTables, OrderFollowsDrivers}
 use Rattle.blif_model.proofs.Signals.{is_among-range, range-bounds}
 use Rattle.blif_model.proofs.Walks.{HasNoCycle, no_cycle-from_find, level_of-driven, level_of-undriven, level_within-le, largest-ge}
-use Rattle.blif_model.proofs.Levels.{distinct-range, is_among-by_key, key-is_among, distinct-by_key, lower-before}
+use Rattle.blif_model.proofs.Levels.{distinct-range, is_among-by_key, key-is_among, distinct-by_key, lower-before, order-range, order-by_key}
 use Rattle.blif_model.proofs.Tables.{find-none, driven_twice-None, target-among, target-at, target-place, driver_of-target, pin-among, target-listed}
 
 -- a design whose order nothing refuses
@@ -53,7 +53,7 @@ ordered-from_Ok design order e =
 
 -- the level of the table at a place
 abbrev pub level_at : List Table → ℕ → ℕ
-level_at tables place = get_or (map (level_of tables) (targets_of tables)) place 0
+level_at tables place = slice_index (levels_of tables) place
 
 pub level_at-is : (tables : List Table) (place : ℕ) (table : Table) → slice_get tables place ≡ Some table → level_at tables place ≡ level_of tables table.target
 level_at-is tables place table at =
@@ -120,6 +120,12 @@ order_lists_tables design order e =
         λ within. Contains-from_any eqb-true place order (listed design order place ordered within),
       ),
     )
+
+pub order_is_by_level : OrderIsByLevel
+order_is_by_level design before after place other e contains =
+    let ordered = ordered-from_Ok design (before ++ place ∷ after) e in
+    order-by_key (level_at design.tables) (range_with_len 0 (length design.tables)) 1 (length design.tables) (order-range 0 (length design.tables)) before after place other (sym ordered.by_level)
+    (list_any-from_Contains nat_eq_equiv other after contains)
 
 -- Each pin of a table is an input, or the target of a table before.
 pub pins-before : (design : Design) (before after : List ℕ) (place : ℕ) (table : Table) (pin : ℕ) → IsOrdered design (before ++ place ∷ after)

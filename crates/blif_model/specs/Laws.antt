@@ -1,12 +1,12 @@
 -- The laws of order and value.
-use Rattle.std.specs.Prelude.{◌≡◌, ◌<◌, ◌+◌, ◌↔◌, ℕ, Bool, false, IsTrue, nat_eq, List, ◌∷◌, ◌++◌, length, map, All, Contains, slice_get, slice_index_or, Some, Ok}
+use Rattle.std.specs.Prelude.{◌≡◌, ◌<◌, ◌+◌, ◌↔◌, ◌⊎◌, ℕ, Bool, false, IsTrue, nat_eq, List, ◌∷◌, ◌++◌, length, map, All, Contains, slice_get, slice_index, slice_index_or, Some, Ok}
 use Rattle.std.specs.List.{IsDistinct}
 use Rattle.blif_model.specs.declared.design.Table.{Table}
 use Rattle.blif_model.specs.declared.design.Design.{Design}
 use Rattle.blif_model.specs.declared.design.Ordered.{Ordered}
 use Rattle.blif_model.specs.Regular.{IsRegular}
 use Rattle.blif_model.specs.Values.{Values, table_value, tables_at, signal_value}
-use Rattle.blif_model.specs.Order.{targets_of, driven_signals, IsOnCycle, is_on_cycle, largest, level_of, table_order}
+use Rattle.blif_model.specs.Order.{targets_of, driven_signals, IsOnCycle, is_on_cycle, largest, level_of, levels_of, table_order}
 
 -- The test for tables on a cycle finds each, however long the walk is that leads from it to itself.
 abbrev pub CyclesAreFound : Type 0
@@ -24,6 +24,18 @@ abbrev pub OrderListsTables : Type 0
 OrderListsTables =
     (design : Design) (order : List ℕ) → table_order design ≡ Ok order
     → IsDistinct nat_eq order × ((place : ℕ) → Contains order place ↔ place < length design.tables)
+
+-- a place comes before another: the level of its table is lower, or it is the same and the place itself is
+abbrev pub ComesBefore : List Table → ℕ → ℕ → Type 0
+ComesBefore tables place other =
+    (slice_index (levels_of tables) place < slice_index (levels_of tables) other)
+    ⊎ ((slice_index (levels_of tables) place ≡ slice_index (levels_of tables) other) × (place < other))
+
+-- An order is by level, and within a level by place: a place comes before each that stands after it.
+abbrev pub OrderIsByLevel : Type 0
+OrderIsByLevel =
+    (design : Design) (before after : List ℕ) (place other : ℕ) → table_order design ≡ Ok (before ++ place ∷ after) → Contains after other
+    → ComesBefore design.tables place other
 
 -- An order lists each table behind the tables that drive its pins: each pin is an input, or the target of a table before.
 abbrev pub OrderFollowsDrivers : Type 0

@@ -69,11 +69,13 @@ level_within tables (suc most) signal = level_behind (level_within tables most) 
 abbrev pub level_of : List Table → ℕ → ℕ
 level_of tables signal = level_within tables (length tables) signal
 
+-- the levels of tables, in the order of the file: a table has the level of its target
+abbrev pub levels_of : List Table → List ℕ
+levels_of tables = map (level_of tables) (targets_of tables)
+
 -- the places of the tables of a level, in the order of the file
 abbrev pub places_of_level : List Table → ℕ → List ℕ
-places_of_level tables level =
-    let levels = map (level_of tables) (targets_of tables) in
-    filter (λ place. slice_index levels place == level) (range_with_len 0 (length tables))
+places_of_level tables level = filter (λ place. slice_index (levels_of tables) place == level) (range_with_len 0 (length tables))
 
 -- the places of all tables, by level, and within a level in the order of the file
 abbrev pub places_by_level : List Table → List ℕ

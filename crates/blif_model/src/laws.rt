@@ -1,6 +1,6 @@
 //! The laws of order and value. A law takes nothing and does nothing: its clause is the law.
 
-ghost use Rattle.blif_model.specs.Laws.{CyclesAreFound, InputsHaveBits, LevelsFollowDrivers, OrderFollowsDrivers, OrderListsTables, ValuesAreDetermined, ValuesFollowTables};
+ghost use Rattle.blif_model.specs.Laws.{CyclesAreFound, InputsHaveBits, LevelsFollowDrivers, OrderFollowsDrivers, OrderIsByLevel, OrderListsTables, ValuesAreDetermined, ValuesFollowTables};
 
 /// The test for tables on a cycle, which looks at walks of at most as many steps as there are tables, finds each.
 pub fn cycles_are_found()
@@ -15,6 +15,11 @@ pub fn levels_follow_drivers()
 /// An order lists the place of each table once.
 pub fn order_lists_tables()
     ensures { OrderListsTables }
+{}
+
+/// An order is by level, and within a level by place.
+pub fn order_is_by_level()
+    ensures { OrderIsByLevel }
 {}
 
 /// An order lists each table behind the tables that drive its pins: each pin is an input, or the target of a table before.

@@ -11,7 +11,7 @@ pub use design::{
 };
 pub use laws::{
     cycles_are_found, inputs_have_bits, levels_follow_drivers, order_follows_drivers,
-    order_lists_tables, values_are_determined, values_follow_tables,
+    order_is_by_level, order_lists_tables, values_are_determined, values_follow_tables,
 };
 pub use names::NameTable;
 pub use regular::is_regular;
