@@ -1,13 +1,16 @@
 -- Small designs by hand, with what the profile says of them: a false definition fails here.
 -- Signals: 0 is `a`, 1 is `b`, 2 is `f`, 3 is `g`.
-use Rattle.std.specs.Prelude.{◌≡◌, ℕ, Bool, true, false, List, [], ◌∷◌, Ok, Err, refl}
+use Rattle.std.proofs.Common.{◌≡◌, ◌<◌, ℕ, Bool, true, false, List, [], ◌∷◌, length, get_or, drop, Ok, Err, refl, lit<, lit≤, arith}
+use Rattle.std.proofs.lemmas.List.Elements.{All-cons, All-nil}
 use Rattle.blif_model.specs.declared.design.Bit.TheVariants.{Zero, One, Any}
+use Rattle.blif_model.specs.declared.design.Cube.{Cube}
 use Rattle.blif_model.specs.declared.design.Table.{Table}
 use Rattle.blif_model.specs.declared.design.Design.{Design}
-use Rattle.blif_model.specs.declared.design.Ordered.{Ordered}
 use Rattle.blif_model.specs.Names.{number_of, with_name}
+use Rattle.blif_model.specs.Regular.{IsTable, IsRegular}
 use Rattle.blif_model.specs.Values.{table_value, signal_value}
 use Rattle.blif_model.specs.Order.{DuplicateDriver, Undriven, Cycle, is_on_cycle, level_of, table_order}
+use Rattle.blif_model.proofs.Levels.{distinct-range}
 
 -- the names `a`, `b`, `f` and `g`
 abbrev names : List (List ℕ)
@@ -156,3 +159,32 @@ behind_a_cycle = refl
 
 behind_is_not_named : table_order behind ≡ Err (Cycle 4)
 behind_is_not_named = refl
+
+backwards_first : IsTable 4 (get_or backwards.tables 0 both)
+backwards_first = record {
+  target = lit< tt;
+  pins = All-cons (λ pin. pin < 4) 3 [] (lit< tt) (All-nil (λ pin. pin < 4));
+  few_pins = lit≤ tt;
+  rows = All-cons (λ (row : Cube). length row.bits ≡ 1) (record { bits = Zero ∷ [] }) [] refl (All-nil (λ (row : Cube). length row.bits ≡ 1));
+}
+
+backwards_second : IsTable 4 (get_or backwards.tables 1 both)
+backwards_second = record {
+  target = lit< tt;
+  pins = All-cons (λ pin. pin < 4) 0 (1 ∷ []) (lit< tt) (All-cons (λ pin. pin < 4) 1 [] (lit< tt) (All-nil (λ pin. pin < 4)));
+  few_pins = lit≤ tt;
+  rows = All-cons (λ (row : Cube). length row.bits ≡ 2) (record { bits = One ∷ (One ∷ []) }) [] refl (All-nil (λ (row : Cube). length row.bits ≡ 2));
+}
+
+-- A row of one bit for two pins makes no table.
+short_row_is_none : IsTable 4 (record { line = 3; pins = 0 ∷ (1 ∷ []); target = 2; rows = record { bits = One ∷ [] } ∷ []; on = true }) → ⊥
+short_row_is_none table = let one_is_two : ◌≡◌ {A = ℕ} 1 2 = table.rows 0 (record { bits = [] }) (lit< tt) in omega (arith, one_is_two)
+
+-- `backwards` is regular: its four names are enough for all numbers, and its rows fit.
+backwards_is_regular : IsRegular backwards
+backwards_is_regular = record {
+  inputs = record { named = All-cons (λ signal. signal < 4) 0 (1 ∷ []) (lit< tt) (All-cons (λ signal. signal < 4) 1 [] (lit< tt) (All-nil (λ signal. signal < 4))); distinct = distinct-range 0 2; few = lit≤ tt };
+  outputs = record { named = All-cons (λ signal. signal < 4) 2 [] (lit< tt) (All-nil (λ signal. signal < 4)); distinct = distinct-range 2 1; few = lit≤ tt };
+  tables = All-cons (IsTable 4) (get_or backwards.tables 0 both) (drop 1 backwards.tables) backwards_first (All-cons (IsTable 4) (get_or backwards.tables 1 both) [] backwards_second (All-nil (IsTable 4)));
+  few_tables = lit≤ tt;
+}

@@ -6,3 +6,4 @@ pub mod Tables
 pub mod Orders
 pub mod Values
 pub mod Cycles
+pub mod CallerLemmas

@@ -1,5 +1,5 @@
 -- What an order gives, where nothing refuses it: the places by level, each once, and each table behind those that drive it.
-use Rattle.std.proofs.Common.{◌≡◌, ◌<◌, ◌≤◌, ◌+◌, ◌++◌, ◌∙◌, ◌||◌, ◌⊎◌, inl, inr, ℕ, zero, suc, Bool, true, false, not, List, [], ◌∷◌, length, get_or, map, Option, Some, None, Result, Ok, Err, Contains, nat_eq, refl, sym, ap, subst, arith, ⊎_elim}
+use Rattle.std.proofs.Common.{◌≡◌, ◌<◌, ◌≤◌, ◌++◌, ◌∙◌, ◌||◌, ◌⊎◌, inl, inr, ℕ, true, false, not, List, ◌∷◌, length, get_or, Option, Some, None, Ok, nat_eq, refl, sym, ap, subst, arith, ⊎_elim}
 use Rattle.std.specs.Prelude.{find, slice_get, slice_index}
 use Rattle.std.specs.Cmp.{nat_eq_equiv}
 use Rattle.std.specs.List.{IsDistinct, flat_map, range_with_len}
@@ -14,12 +14,12 @@ use Rattle.net_base.specs.Keys.{is_among}
 use Rattle.blif_model.specs.declared.design.Table.{Table}
 use Rattle.blif_model.specs.declared.design.Design.{Design}
 use Rattle.blif_model.specs.Values.{tables_at}
-use Rattle.blif_model.specs.Order.{Refusal, DuplicateDriver, Undriven, Cycle, targets_of, driven_signals, used_signals, driven_twice, undriven, driver_of, is_on_cycle, level_behind, level_of, levels_of, places_by_level, unless, refusal_of, name_of, table_order}
+use Rattle.blif_model.specs.Order.{Refusal, DuplicateDriver, Undriven, Cycle, targets_of, driven_signals, used_signals, driven_twice, undriven, is_on_cycle, level_behind, level_of, levels_of, places_by_level, unless, name_of, table_order}
 use Rattle.blif_model.specs.Laws.{LevelsFollowDrivers, OrderIsByLevel, OrderListsTables, OrderFollowsDrivers}
 use Rattle.blif_model.proofs.Signals.{is_among-range, range-bounds}
 use Rattle.blif_model.proofs.Walks.{HasNoCycle, no_cycle-from_find, level_of-driven, level_of-undriven, level_within-le, largest-ge}
 use Rattle.blif_model.proofs.Levels.{distinct-range, is_among-by_key, key-is_among, distinct-by_key, lower-before, order-range, order-by_key}
-use Rattle.blif_model.proofs.Tables.{find-none, driven_twice-None, target-among, target-at, target-place, driver_of-target, pin-among, target-listed}
+use Rattle.blif_model.proofs.Tables.{find-none, driven_twice-None, target-at, target-place, driver_of-target, pin-among, target-listed}
 
 -- a design whose order nothing refuses
 pub record IsOrdered (design : Design) (order : List ℕ) : Type 0 where

@@ -1,8 +1,8 @@
 -- Tables at their places: targets, the table that drives a signal, and tables in another order.
-use Rattle.std.proofs.Common.{◌≡◌, ◌==◌, ◌<◌, ◌+◌, ◌++◌, ◌∙◌, ◌||◌, ◌⊎◌, inl, inr, ℕ, zero, suc, Bool, true, false, cond, not, List, [], ◌∷◌, length, get_or, map, Option, Some, None, nat_eq, refl, sym, ap, subst, arith, true≢false, ⊎_elim}
+use Rattle.std.proofs.Common.{◌≡◌, ◌<◌, ◌++◌, ◌∙◌, ◌||◌, ◌⊎◌, inl, inr, ℕ, zero, suc, Bool, true, false, cond, List, [], ◌∷◌, length, get_or, Option, Some, None, nat_eq, refl, sym, ap, subst, arith, true≢false, ⊎_elim}
 use Rattle.std.specs.Prelude.{find, slice_get}
-use Rattle.std.specs.List.{IsDistinct, flat_map, list_any, cons_option}
-use Rattle.std.proofs.lemmas.Bool.{or_cases, or_left, or_right, or_parts, eqb-true, eq-eqb, eqb-false, both_ways, false_from_ne_true, not-false, cases_order}
+use Rattle.std.specs.List.{IsDistinct, flat_map, cons_option}
+use Rattle.std.proofs.lemmas.Bool.{or_cases, or_left, or_right, or_parts, eqb-true, eq-eqb, both_ways, false_from_ne_true, cases_order}
 use Rattle.std.proofs.lemmas.Option.{same_Some, none-some, get_or_from_slice_get, slice_get_within}
 use Rattle.std.proofs.lemmas.List.{get_or-map, length-map}
 use Rattle.std.proofs.lemmas.List.Folds.{list_any-append}

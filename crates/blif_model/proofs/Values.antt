@@ -1,9 +1,9 @@
 -- The values of signals in order: a table's target keeps the value that it gets, and so do the pins that it is made of.
-use Rattle.std.proofs.Common.{◌≡◌, ◌==◌, ◌<◌, ◌+◌, ◌++◌, ◌∙◌, ◌||◌, ◌⊎◌, inl, inr, ℕ, zero, suc, Bool, true, false, List, [], ◌∷◌, length, get_or, map, Option, Some, None, Ok, Contains, if◌then◌else◌, nat_eq, refl, sym, ap, subst, arith, true≢false, ⊎_elim}
+use Rattle.std.proofs.Common.{◌≡◌, ◌==◌, ◌++◌, ◌∙◌, ◌||◌, ◌⊎◌, inl, inr, ℕ, zero, suc, Bool, true, false, List, [], ◌∷◌, get_or, map, Option, Some, Contains, if◌then◌else◌, nat_eq, refl, sym, ap, subst, true≢false, ⊎_elim}
 use Rattle.std.specs.Prelude.{slice_get}
 use Rattle.std.specs.Cmp.{nat_eq_equiv}
 use Rattle.std.specs.List.{IsDistinct, cons_option}
-use Rattle.std.proofs.lemmas.Bool.{or_cases, or_left, or_right, or_parts, or_from, eqb-true, eq-eqb, both_ways, false_from_ne_true}
+use Rattle.std.proofs.lemmas.Bool.{or_cases, or_left, or_right, or_parts, eqb-true, eq-eqb, both_ways, false_from_ne_true}
 use Rattle.std.proofs.lemmas.Option.{same_Some, none-some, slice_get-get_or, slice_get_within, get_or_from_slice_get}
 use Rattle.std.proofs.lemmas.List.{map-append, append_assoc, append-nil}
 use Rattle.std.proofs.lemmas.List.Elements.{filter_map-append}
@@ -13,29 +13,27 @@ use Rattle.std.proofs.lemmas.Map.Views.{Contains-from_any, list_any-from_Contain
 use Rattle.net_base.specs.Keys.{is_among}
 use Rattle.blif_model.specs.declared.design.Table.{Table}
 use Rattle.blif_model.specs.declared.design.Design.{Design}
-use Rattle.blif_model.specs.declared.design.Ordered.{Ordered}
-use Rattle.blif_model.specs.Regular.{IsRegular}
 use Rattle.blif_model.specs.Values.{Values, table_value, input_values, with_target, with_targets, tables_at, signal_value}
-use Rattle.blif_model.specs.Order.{targets_of, driven_signals, table_order}
+use Rattle.blif_model.specs.Order.{targets_of, driven_signals}
 use Rattle.blif_model.specs.Laws.{ValuesFollowTables, InputsHaveBits, ValuesAreDetermined}
 use Rattle.blif_model.proofs.Signals.{distinct-head, distinct-parts, distinct-second}
 use Rattle.blif_model.proofs.Levels.{stands_between}
 use Rattle.blif_model.proofs.Tables.{target-among, target-place, target-listed, IsListed, listed-target, distinct-listed}
-use Rattle.blif_model.proofs.Orders.{IsOrdered, ordered-from_Ok, listed, listed-once, listed-below, pins-before}
+use Rattle.blif_model.proofs.Orders.{IsOrdered, ordered-from_Ok, listed, listed-once, pins-before}
 
 -- Values that are the same at all pins are the same list.
-map-same : (these those : Values) (pins : List ℕ) → ((pin : ℕ) → is_among nat_eq pin pins ≡ true → these pin ≡ those pin) → map these pins ≡ map those pins
+pub map-same : (these those : Values) (pins : List ℕ) → ((pin : ℕ) → is_among nat_eq pin pins ≡ true → these pin ≡ those pin) → map these pins ≡ map those pins
 map-same these those [] same = refl
 map-same these those (pin ∷ pins) same =
     λ i. same pin (or_left (nat_eq pin pin) (is_among nat_eq pin pins) (eq-eqb pin pin refl)) i
     ∷ map-same these those pins (λ other e. same other (or_right (nat_eq other pin) (is_among nat_eq other pins) e)) i
 
-with_targets-append : (first more : List Table) (values : Values) → with_targets (first ++ more) values ≡ with_targets more (with_targets first values)
+pub with_targets-append : (first more : List Table) (values : Values) → with_targets (first ++ more) values ≡ with_targets more (with_targets first values)
 with_targets-append [] more values = refl
 with_targets-append (table ∷ first) more values = with_targets-append first more (with_target table values)
 
 -- What is no target keeps its value.
-with_targets-other : (tables : List Table) (values : Values) (signal : ℕ) → is_among nat_eq signal (targets_of tables) ≡ false → with_targets tables values signal ≡ values signal
+pub with_targets-other : (tables : List Table) (values : Values) (signal : ℕ) → is_among nat_eq signal (targets_of tables) ≡ false → with_targets tables values signal ≡ values signal
 with_targets-other [] values signal absent = refl
 with_targets-other (table ∷ tables) values signal absent =
     let parts = or_parts (nat_eq signal table.target) (is_among nat_eq signal (targets_of tables)) absent in
@@ -74,13 +72,13 @@ target_value before after table values distinct pins =
         (pins pin among)))
 
 -- Tables in order around the one at a place.
-tables_at-around : (tables : List Table) (before : List ℕ) (place : ℕ) (after : List ℕ) (table : Table) → slice_get tables place ≡ Some table
+pub tables_at-around : (tables : List Table) (before : List ℕ) (place : ℕ) (after : List ℕ) (table : Table) → slice_get tables place ≡ Some table
     → tables_at tables (before ++ place ∷ after) ≡ tables_at tables before ++ table ∷ tables_at tables after
 tables_at-around tables before place after table at =
     filter_map-append (slice_get tables) before (place ∷ after) ∙ ap (λ (o : Option Table). tables_at tables before ++ cons_option o (tables_at tables after)) at
 
 -- An input is no target, in whatever order.
-input-no_target : (design : Design) (order places : List ℕ) (signal : ℕ) → IsOrdered design order → is_among nat_eq signal design.inputs ≡ true → is_among nat_eq signal (targets_of (tables_at design.tables places)) ≡ false
+pub input-no_target : (design : Design) (order places : List ℕ) (signal : ℕ) → IsOrdered design order → is_among nat_eq signal design.inputs ≡ true → is_among nat_eq signal (targets_of (tables_at design.tables places)) ≡ false
 input-no_target design order places signal ordered input =
     false_from_ne_true (is_among nat_eq signal (targets_of (tables_at design.tables places))) (λ e.
     let found = listed-target design.tables places signal e in
@@ -89,7 +87,7 @@ input-no_target design order places signal ordered input =
     input)
 
 -- The value of a table at a place between others.
-value-between : (design : Design) (order before after : List ℕ) (place : ℕ) (table : Table) (values : Values) → IsOrdered design order → order ≡ before ++ place ∷ after
+pub value-between : (design : Design) (order before after : List ℕ) (place : ℕ) (table : Table) (values : Values) → IsOrdered design order → order ≡ before ++ place ∷ after
     → slice_get design.tables place ≡ Some table
     → with_targets (tables_at design.tables order) values table.target ≡ table_value table (map (with_targets (tables_at design.tables order) values) table.pins)
 value-between design order before after place table values ordered e at =

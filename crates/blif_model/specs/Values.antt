@@ -33,7 +33,7 @@ Values = ℕ → Bool
 abbrev pub with_value : ℕ → Bool → Values → Values
 with_value signal value values = λ other. if other == signal then value else values other
 
--- the inputs have the bits of the row, in order; what is said of other signals is free
+-- the inputs have the bits of the row, in order; a signal that has no value yet is false, which no table of an order reads
 abbrev pub input_values : List ℕ → List Bool → Values
 input_values (input ∷ inputs) (bit ∷ bits) = with_value input bit (input_values inputs bits)
 input_values inputs bits = λ _. false
