@@ -60,12 +60,12 @@ abbrev pub level_behind : (ℕ → ℕ) → Option Table → ℕ
 level_behind levels None = 0
 level_behind levels (Some table) = 1 + largest (map levels table.pins)
 
--- the level of a signal, where this many tables behind one another are looked at
+-- the level of a signal, where at most this many tables behind one another are looked at
 abbrev pub level_within : List Table → ℕ → ℕ → ℕ
 level_within tables zero signal = 0
 level_within tables (suc most) signal = level_behind (level_within tables most) (driver_of tables signal)
 
--- the level of a signal: without a cycle no walk is longer than there are tables
+-- the level of a signal: without a cycle no walk passes more tables than there are
 abbrev pub level_of : List Table → ℕ → ℕ
 level_of tables signal = level_within tables (length tables) signal
 

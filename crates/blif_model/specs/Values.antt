@@ -14,7 +14,7 @@ bit_matches Zero value = not value
 bit_matches One value = value
 bit_matches Any value = true
 
--- a row matches the values of the pins where each of its bits does
+-- a row matches the values of the pins, which are as many as its bits, where each bit matches its own
 abbrev pub row_matches : List Bool → Cube → Bool
 row_matches values row = pointwise bit_matches row.bits values
 

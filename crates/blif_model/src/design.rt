@@ -3,14 +3,14 @@
 use crate::NameTable;
 use net_base::{List, Name};
 
-/// The inputs of a design at most. Like the other limits it is a choice of this project, and bounds memory: with them a
-/// design has at most 65,536 * 256 pins, so counts of pins stay far below 2^31.
+/// The inputs of a design at most. The four limits are this project's own choice: they bound what a design takes, and keep
+/// all counts far below 2^31, up to which lists may be numbered by u32.
 pub const MAX_INPUTS: u32 = 4_096;
 
 /// The outputs of a design at most, as many as inputs.
 pub const MAX_OUTPUTS: u32 = 4_096;
 
-/// The tables of a design at most, which is also the highest level that a table can have.
+/// The tables of a design at most. With `MAX_PINS` they have at most 2^24 pins together.
 pub const MAX_TABLES: u32 = 65_536;
 
 /// The pins of a table at most, and so the bits of a row.
