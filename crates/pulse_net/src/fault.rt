@@ -65,7 +65,7 @@ impl From<AllocError> for ValidFault {
 }
 
 /// Why a step of the rules stops, wherever it stands.
-#[derive(Clone, Copy, Debug, PartialEq, Eq)]
+#[derive(Clone, Copy)]
 pub(crate) enum Stop {
     /// It breaks this rule.
     Wrong(Wrong),

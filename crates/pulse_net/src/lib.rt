@@ -33,8 +33,6 @@ mod fault;
 mod formed;
 mod laws;
 mod net;
-#[cfg(test)]
-mod tests;
 mod trace;
 mod unfolding;
 mod validity;
