@@ -14,9 +14,9 @@ use Rattle.pulse_net.specs.Wires.{Wires, found, carried, element_wires, after_el
 use Rattle.pulse_net.specs.Wired.{ElementsInTime}
 use Rattle.pulse_net.specs.Unfolding.{Unfolding, with_wire, dro_driver, pass_dro, add_gate, unfold_cell, unfold_element, unfold_elements}
 use Rattle.pulse_net.specs.Dros.{dros}
-use Rattle.pulse_net.proofs.Tables.{with_wire-new}
-pub use Rattle.pulse_net.proofs.Unbroken.{unbroken}
-pub use Rattle.pulse_net.proofs.Dros.{unfolds_its_dros}
+use Rattle.pulse_net.proofs.InsertedWires.{with_wire-new}
+pub use Rattle.pulse_net.proofs.UnbrokenIsWired.{unbroken}
+pub use Rattle.pulse_net.proofs.UnfoldsItsDros.{unfolds_its_dros}
 
 -- ---- what wires carry
 

@@ -24,9 +24,11 @@
 //! and `specs/Laws.antt` for what is proved; `specs/Unfolding.antt` for the gates, `specs/GatePulses.antt` for their law,
 //! `specs/Dros.antt` for the count of DROs, and `specs/Depths.antt` for depths and theirs. `proofs/Examples.antt`,
 //! `proofs/UnfoldExamples.antt` and `proofs/MajorityExamples.antt` evaluate the definitions on netlists made by hand.
-//! Central proofs: the window lemma (`proofs/Windows.antt`), and the inductions over elements, for pulses against values
-//! (`proofs/Carried.antt`), for values against gates (`proofs/Unfolds.antt`), and for stages and DROs against depths
-//! (`proofs/Depths.antt`).
+//! Each law is proved in the file of `proofs/` that is named for it, what is read at outputs beside what pulses. Central
+//! proofs: the window lemma (`proofs/PulsesAreRowValues/WindowLemma.antt`), and the inductions over elements, for pulses
+//! against values (`proofs/PulsesAreRowValues/PulseInduction.antt`), for values against gates
+//! (`proofs/PulsesAreGateValues/UnfoldingInduction.antt`), and for stages and DROs against depths
+//! (`proofs/StagesAndDrosFollowDepths.antt`).
 #![tactic(auto)]
 
 mod fault;

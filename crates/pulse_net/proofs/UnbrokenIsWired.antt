@@ -1,6 +1,8 @@
 -- The fold of the rules against the rules said of the netlist as it stands: no rule is broken exactly where it is wired.
 -- From the fold: each step says what it used and made, and that nothing was made or used twice. To the fold: each step
 -- finds its sources free, since they are made so far, and stand once in the list of all uses.
+mod RuleSteps
+mod AllUsed
 use Rattle.std.proofs.Common.{◌≡◌, ℕ, ◌+◌, ◌*◌, Bool, true, false, nat_eq, ◌||◌, List, [], ◌∷◌, ◌++◌, refl, sym, ap, subst, ◌∙◌, append_assoc, arith}
 use Rattle.std.specs.Prelude.{Option, Some, None, Result, Ok, Err, IsOk, nat_lt, nat_le, ◌==◌, unwrap_or, flat_map, option_to_list}
 use Rattle.std.specs.List.{IsDistinct, list_any}
@@ -21,8 +23,9 @@ use Rattle.net_base.specs.Keys.{is_among}
 use Rattle.pulse_net.specs.Validity.{Wiring, at, made_once, make_wire, used_once, source_stage, is_gap, with_used, used_in_time, use_wire, use_pins, wire_element, wire_output, wire_inputs, wire_elements, wire_outputs, unwired, check_latency, has_wire, least_unused, close_at, close_wires, wiring_of}
 use Rattle.pulse_net.specs.Wired.{element_makes, makes_of, ArrivesInTime, ArriveInTime, ElementInTime, ElementsInTime, OutletInTime, OutletsInTime, IsWired}
 use Rattle.pulse_net.specs.Laws.{UnbrokenIsWired}
-use Rattle.pulse_net.proofs.Once.{keys-stages, keys-element, keys-inputs, least_unused-none, least_unused-used}
-use Rattle.pulse_net.proofs.Steps.{with_made, IsOnce, WiresInputs, WiresElements, WiresOutlets, wire_inputs-ok, wire_elements-ok, wire_outputs-ok}
+use Rattle.pulse_net.proofs.WiresMadeOnce.{keys-stages, keys-element, keys-inputs}
+use Rattle.pulse_net.proofs.UnbrokenIsWired.AllUsed.{least_unused-none, least_unused-used}
+use Rattle.pulse_net.proofs.UnbrokenIsWired.RuleSteps.{with_made, IsOnce, WiresInputs, WiresElements, WiresOutlets, wire_inputs-ok, wire_elements-ok, wire_outputs-ok}
 
 -- ---- from the fold
 
