@@ -44,10 +44,10 @@ outlet_reads n some c latency late stages values signals p (Wire wire) h =
     let e : n * (c + latency) ≡ n * c + n * latency = grind arith in
     pulsed_within-at_clock n (carried silence signals wire) (n * (c + latency)) (n * c + s) (λ t q. pulses.clocked t q ∙ sym clock) (omega (arith, time.after)) (omega (arith, time.within)) ∙ pulses.on_time
 
-outlets-at : (phases user : ℕ) (made : Wires ℕ) (outlets : List Outlet) (output : ℕ) → OutletsInTime phases user made outlets → OutletInTime phases user made (slice_index_or outlets output Zero)
-outlets-at phases user made [] output h = tt
-outlets-at phases user made (outlet ∷ outlets) zero h = h.0
-outlets-at phases user made (outlet ∷ outlets) (suc output) h = outlets-at phases user made outlets output h.1
+outlets-at : (n user : ℕ) (made : Wires ℕ) (outlets : List Outlet) (output : ℕ) → OutletsInTime n user made outlets → OutletInTime n user made (slice_index_or outlets output Zero)
+outlets-at n user made [] output h = tt
+outlets-at n user made (outlet ∷ outlets) zero h = h.0
+outlets-at n user made (outlet ∷ outlets) (suc output) h = outlets-at n user made outlets output h.1
 
 module _ (net : PulseNet) (valid : IsValid net) where
   aligned-valid : (rows : List (List Bool)) (c : ℕ) → Aligned net.phases c (stages_of net) (row_values net (get_or rows c [])) (signals_of net (spread net.phases rows))

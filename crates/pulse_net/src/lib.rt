@@ -15,7 +15,8 @@
 //! through DROs and splitters (`value`); they are a gate netlist (`net`), each gate's wire pulses as the gate is
 //! valued, and each output is read so (`pulses`, and the law `pulses_are_gate_values`). `unfolds_its_dros` says that it
 //! counts the DROs among the elements. `stages_follow_depths` says how far behind its driver a wire can stand: n ticks
-//! for each DRO that it passed, for n phases; and `dros_follow_depths` says that its driver has as many DROs at least.
+//! for each DRO that it passed, for n phases; and `dros_follow_depths` says that its driver has k DROs at least where the
+//! wire passed k of them.
 //! Only `valid` and `unfold` take memory.
 //! Not promised: that a chip behaves so. There are no picoseconds, bias currents or clock skew in this model.
 //!

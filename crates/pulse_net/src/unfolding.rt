@@ -85,7 +85,8 @@ struct OutputsAndClocks {
     epochs: Epochs,
 }
 
-/// The outputs of a trace, and the phases and epochs of its stages, with the latency as the sink's epoch.
+/// The outputs of a trace, and the phases and epochs of its stages, with the latency as the sink's epoch. The trace is
+/// borrowed, so no exit has it to drop.
 fn outputs_and_clocks_of(
     alloc: Global,
     net: &PulseNet,

@@ -27,7 +27,7 @@ pub fn valid(alloc: Global, net: &PulseNet) -> Result<(), ValidFault>
     pass(&mut wires, net)
 }
 
-/// All rules in order, where no wire is made or used yet.
+/// All rules in order, where no wire is made or used yet. The wires are borrowed, so no exit has them to drop.
 fn pass(wires: &mut Wires, net: &PulseNet) -> Result<(), ValidFault>
     requires unwired { wires.old ≡ unwired }
     requires formed { IsFormed net.now }
