@@ -32,7 +32,7 @@ impl Model for Trace {
 }
 
 impl Trace {
-    /// Nothing traced, and room for so many wires.
+    /// Nothing traced, and room for `most` wires.
     pub(crate) fn with_room(alloc: Global, most: usize) -> Result<Trace, NoMemory>
         ensures { IfOk result (λ trace. trace ≡ nothing_unfolded) }
     {

@@ -24,9 +24,9 @@ use Rattle.pulse_net.specs.Validity.{IsValid}
 use Rattle.pulse_net.specs.Wired.{element_makes, ArriveInTime, ElementInTime, ElementsInTime}
 use Rattle.pulse_net.specs.Unfolding.{Unfolding, driver_of, make_driven, add_gate, pass_dro, dro_driver, nothing_unfolded, unfold_element, unfold_elements, unfold_inputs, unfolding_of}
 use Rattle.pulse_net.specs.Depths.{input_depth, cell_depth, depths_of, dros_behind, StagesFollowDepths, DrosFollowDepths}
-use Rattle.pulse_net.proofs.Readings.{Related, none, related-weaker, related-found, related-absent, related-make}
-use Rattle.pulse_net.proofs.Once.{new_wire, behind_wire, behind_element, keys-inputs}
-use Rattle.pulse_net.proofs.Unbroken.{wired}
+use Rattle.pulse_net.proofs.RelatedWires.{Related, none, related-weaker, related-found, related-absent, related-make}
+use Rattle.pulse_net.proofs.WiresMadeOnce.{new_wire, behind_wire, behind_element, keys-inputs}
+use Rattle.pulse_net.proofs.UnbrokenIsWired.{wired}
 
 -- a driver is an input or a gate that has its stage so far
 abbrev HasStage : List ℕ → Driver → Type 0

@@ -1,18 +1,14 @@
--- Lists in which no wire stands twice, and the wires of a table.
-use Rattle.std.proofs.Common.{◌≡◌, ℕ, Bool, true, false, cond, nat_eq, ◌+◌, List, [], ◌∷◌, ◌++◌, refl, sym, ap, subst, ◌∙◌, ⊎_elim, append_assoc}
+-- Where no wire is made twice: a wire that comes next is new, and so are those behind it.
+use Rattle.std.proofs.Common.{◌≡◌, ℕ, nat_eq, ◌+◌, List, [], ◌∷◌, ◌++◌, refl, sym, ap, subst, ◌∙◌, append_assoc}
 use Rattle.std.specs.Prelude.{Option, Some, None, flat_map, option_to_list}
 use Rattle.std.specs.List.{IsDistinct}
 use Rattle.std.specs.Map.{keys_of}
-use Rattle.std.specs.Cmp.{nat_eq_equiv}
-use Rattle.std.proofs.lemmas.Bool.{or_cases, or_left, or_right, true≢false, eqb-true}
 use Rattle.std.proofs.lemmas.List.{append-nil, map-append}
 use Rattle.net_base.proofs.CallerLemmas.{lookup-absent, is_among-next}
 use Rattle.pulse_net.specs.declared.net.Element.{Element}
 use Rattle.pulse_net.specs.declared.net.Element.TheVariants.{Clocked, Split}
 use Rattle.pulse_net.specs.declared.net.PulseNet.{PulseNet}
 use Rattle.pulse_net.specs.Wires.{Wires, found, input_entries, element_wires, after_elements, input_stage, cell_stage, stages_of}
-use Rattle.net_base.specs.Keys.{is_among}
-use Rattle.pulse_net.specs.Validity.{lesser, with_unused, least_unused}
 use Rattle.pulse_net.specs.Wired.{element_makes, makes_of}
 
 pub keys-element : (made : Wires ℕ) (element : Element) → keys_of (element_wires 0 cell_stage made element) ≡ element_makes element
@@ -53,23 +49,3 @@ behind_element a element rest h =
     let wires = element_wires 0 cell_stage a element in
     let made : keys_of (a ++ wires) ≡ keys_of a ++ element_makes element = map-append (λ (e : ℕ × ℕ). e.0) a wires ∙ ap (λ k. keys_of a ++ k) (keys-element a element) in
     subst (IsDistinct nat_eq) (sym (ap (λ k. k ++ rest) made ∙ append_assoc (keys_of a) (element_makes element) rest)) h
-
--- where no unused wire is found, each wire is used
-pub record AreUsed (used wires : List ℕ) (least : Option ℕ) : Type 0 where
-  pub none : least ≡ None
-  pub each : (wire : ℕ) → is_among nat_eq wire wires ≡ true → is_among nat_eq wire used ≡ true
-
-pub least_unused-none : (used : List ℕ) (wires : List ℕ) (least : Option ℕ) → least_unused used least wires ≡ None → AreUsed used wires least
-least_unused-none used [] least h = record { none = h; each = λ wire e. absurd (true≢false (sym e)) }
-least_unused-none used (one ∷ wires) least h = let rest = least_unused-none used wires (with_unused used one least) h in by (is_among nat_eq one used) refl rest rest.none
-  where
-    by : (fine : Bool) → is_among nat_eq one used ≡ fine → AreUsed used wires (with_unused used one least) → cond fine least (Some (lesser one least)) ≡ None → AreUsed used (one ∷ wires) least
-    by true e rest n = record { none = n; each = λ wire among. ⊎_elim (λ same. ap (λ wire. is_among nat_eq wire used) (eqb-true wire one same) ∙ e) (rest.each wire) (or_cases (nat_eq wire one) (is_among nat_eq wire wires) among) }
-    by false e rest n = cc
-
--- and where each wire is used, none is found
-pub least_unused-used : (used : List ℕ) (wires : List ℕ) → ((wire : ℕ) → is_among nat_eq wire wires ≡ true → is_among nat_eq wire used ≡ true) → least_unused used None wires ≡ None
-least_unused-used used [] h = refl
-least_unused-used used (one ∷ wires) h =
-    let here : is_among nat_eq one used ≡ true = h one (or_left (nat_eq one one) (is_among nat_eq one wires) (nat_eq_equiv.refl one)) in
-    ap (λ b. least_unused used (cond b None (Some (lesser one None))) wires) here ∙ least_unused-used used wires (λ wire e. h wire (or_right (nat_eq wire one) (is_among nat_eq wire wires) e))

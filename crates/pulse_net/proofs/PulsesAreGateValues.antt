@@ -1,4 +1,7 @@
 -- In a valid netlist the unfolded gates are a gate netlist, and the pulses are the values of the gates.
+mod DriverValues
+mod GatesSoFar
+mod UnfoldingInduction
 use Rattle.std.proofs.Common.{◌≡◌, ◌<◌, ◌≤◌, ◌+◌, ◌*◌, ◌/◌, ◌%◌, ◌^◌, ℕ, zero, suc, Bool, false, nat_eq, List, [], ◌∷◌, ◌++◌, length, map, get_or, refl, sym, ap, subst, ◌∙◌, arith}
 use Rattle.std.specs.Prelude.{unwrap_or, flat_map, Result, Ok, Err, IfOk}
 use Rattle.std.specs.List.{IsDistinct, AllByRecursion}
@@ -21,14 +24,14 @@ use Rattle.pulse_net.specs.RowValues.{row_values, outlet_value}
 use Rattle.pulse_net.specs.Laws.{row_of, spread_signal}
 use Rattle.pulse_net.specs.Unfolding.{Unfolding, end_of, epochs_of, nothing_unfolded, unfold_inputs, unfolding_of, unfolded_from, unfolded, gate_wires}
 use Rattle.pulse_net.specs.GatePulses.{GatePulses, PulsesAreGateValues}
-use Rattle.pulse_net.proofs.Once.{keys-inputs}
-use Rattle.pulse_net.proofs.Unbroken.{wired}
-use Rattle.pulse_net.proofs.Law.{pulses_are_row_values, reads_are_row_values}
-use Rattle.pulse_net.proofs.Readings.{none, related-found}
-use Rattle.pulse_net.proofs.Agree.{Agree}
-use Rattle.pulse_net.proofs.Traced.{Traced}
-use Rattle.pulse_net.proofs.Driven.{gates-inputs, gates-elements}
-use Rattle.pulse_net.proofs.Unfolds.{elements_traced, inputs_traced}
+use Rattle.pulse_net.proofs.WiresMadeOnce.{keys-inputs}
+use Rattle.pulse_net.proofs.UnbrokenIsWired.{wired}
+use Rattle.pulse_net.proofs.PulsesAreRowValues.{pulses_are_row_values, reads_are_row_values}
+use Rattle.pulse_net.proofs.RelatedWires.{none, related-found}
+use Rattle.pulse_net.proofs.PulsesAreGateValues.DriverValues.{Agree}
+use Rattle.pulse_net.proofs.PulsesAreGateValues.GatesSoFar.{Traced}
+use Rattle.pulse_net.proofs.UnfoldedGateCount.{gates-inputs, gates-elements}
+use Rattle.pulse_net.proofs.PulsesAreGateValues.UnfoldingInduction.{elements_traced, inputs_traced}
 
 -- before any input nothing is known
 nothing_traced : (inputs : ℕ) (bits : List Bool) → Traced inputs bits [] [] nothing_unfolded []

@@ -21,10 +21,10 @@ use Rattle.pulse_net.specs.Wires.{Wires, found, carried, input_entries, element_
 use Rattle.pulse_net.specs.Wired.{element_makes, ArriveInTime, ElementInTime, ElementsInTime}
 use Rattle.pulse_net.specs.RowValues.{input_value, stageless_value}
 use Rattle.pulse_net.specs.Unfolding.{Unfolding, driver_of, make_driven, add_gate, pass_dro, dro_driver, unfold_element, unfold_elements, unfold_inputs, gate_wire}
-use Rattle.pulse_net.proofs.Once.{new_wire, behind_wire, behind_element}
-use Rattle.pulse_net.proofs.Readings.{related-found, related-absent, related-make}
-use Rattle.pulse_net.proofs.Agree.{IsDriven, agree-more, driven-new, pins-there, pins-worth}
-use Rattle.pulse_net.proofs.Traced.{Traced, gates_known-wires, gates_known-push}
+use Rattle.pulse_net.proofs.WiresMadeOnce.{new_wire, behind_wire, behind_element}
+use Rattle.pulse_net.proofs.RelatedWires.{related-found, related-absent, related-make}
+use Rattle.pulse_net.proofs.PulsesAreGateValues.DriverValues.{IsDriven, agree-more, driven-new, pins-there, pins-worth}
+use Rattle.pulse_net.proofs.PulsesAreGateValues.GatesSoFar.{Traced, gates_known-wires, gates_known-push}
 
 module _ (inputs : ℕ) (bits : List Bool) where
   -- a new wire with its driver

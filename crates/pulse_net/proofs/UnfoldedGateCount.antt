@@ -18,7 +18,7 @@ gates-element : (element : Element) (so : Unfolding) → length (unfold_element 
 gates-element (Clocked cell stage pins out) so = gates-cell cell stage out (map (driver_of so.wires) pins) so
 gates-element (Split from left right) so = omega arith
 
--- elements add as many gates as there are elements at most
+-- n elements add n gates at most
 pub gates-elements : (elements : List Element) (so : Unfolding) → length (unfold_elements elements so).gates ≤ length so.gates + length elements
 gates-elements [] so = omega arith
 gates-elements (element ∷ elements) so = omega (arith, gates-element element so, gates-elements elements (unfold_element element so))

@@ -11,7 +11,7 @@ use Rattle.gate_net.proofs.CallerLemmas.{IsThere-more, driver-more, value-new}
 use Rattle.pulse_net.specs.Wires.{Wires, carried}
 use Rattle.pulse_net.specs.Wired.{ArriveInTime}
 use Rattle.pulse_net.specs.Unfolding.{driver_of}
-use Rattle.pulse_net.proofs.Readings.{Related, related-weaker, related-found}
+use Rattle.pulse_net.proofs.RelatedWires.{Related, related-weaker, related-found}
 
 -- a wire's driver is an input or one of the gates so far, and has the wire's value
 pub record IsDriven (inputs : ℕ) (bits : List Bool) (gates : List GateRow) (value : Bool) (driver : Driver) : Type 0 where

@@ -1,6 +1,8 @@
 -- The fold of the rules against the rules said of the netlist as it stands: no rule is broken exactly where it is wired.
 -- From the fold: each step says what it used and made, and that nothing was made or used twice. To the fold: each step
 -- finds its sources free, since they are made so far, and stand once in the list of all uses.
+mod RuleSteps
+mod AllUsed
 use Rattle.std.proofs.Common.{◌≡◌, ℕ, ◌+◌, ◌*◌, Bool, true, false, nat_eq, ◌||◌, List, [], ◌∷◌, ◌++◌, refl, sym, ap, subst, ◌∙◌, append_assoc, arith}
 use Rattle.std.specs.Prelude.{Option, Some, None, Result, Ok, Err, IsOk, nat_lt, nat_le, ◌==◌, unwrap_or, flat_map, option_to_list}
 use Rattle.std.specs.List.{IsDistinct, list_any}
@@ -21,8 +23,9 @@ use Rattle.net_base.specs.Keys.{is_among}
 use Rattle.pulse_net.specs.Validity.{Wiring, at, made_once, make_wire, used_once, source_stage, is_gap, with_used, used_in_time, use_wire, use_pins, wire_element, wire_output, wire_inputs, wire_elements, wire_outputs, unwired, check_latency, has_wire, least_unused, close_at, close_wires, wiring_of}
 use Rattle.pulse_net.specs.Wired.{element_makes, makes_of, ArrivesInTime, ArriveInTime, ElementInTime, ElementsInTime, OutletInTime, OutletsInTime, IsWired}
 use Rattle.pulse_net.specs.Laws.{UnbrokenIsWired}
-use Rattle.pulse_net.proofs.Once.{keys-stages, keys-element, keys-inputs, least_unused-none, least_unused-used}
-use Rattle.pulse_net.proofs.Steps.{with_made, IsOnce, WiresInputs, WiresElements, WiresOutlets, wire_inputs-ok, wire_elements-ok, wire_outputs-ok}
+use Rattle.pulse_net.proofs.WiresMadeOnce.{keys-stages, keys-element, keys-inputs}
+use Rattle.pulse_net.proofs.UnbrokenIsWired.AllUsed.{least_unused-none, least_unused-used}
+use Rattle.pulse_net.proofs.UnbrokenIsWired.RuleSteps.{with_made, IsOnce, WiresInputs, WiresElements, WiresOutlets, wire_inputs-ok, wire_elements-ok, wire_outputs-ok}
 
 -- ---- from the fold
 
@@ -117,11 +120,11 @@ source_stage-fine : (wiring : Wiring) (wire stage : ℕ) → found wiring.made w
 source_stage-fine wiring wire stage made unused =
     ap (λ o. used_once wire o (is_among nat_eq wire wiring.used)) made ∙ ap (used_once wire (Some stage)) unused
 
-use_wire-fine : (phases user : ℕ) (wiring : Wiring) (wire : ℕ) → ArrivesInTime phases wiring.made user wire → is_among nat_eq wire wiring.used ≡ false → use_wire phases user wire wiring ≡ Ok (with_used wiring wire)
-use_wire-fine phases user wiring wire h unused =
+use_wire-fine : (n user : ℕ) (wiring : Wiring) (wire : ℕ) → ArrivesInTime n wiring.made user wire → is_among nat_eq wire wiring.used ≡ false → use_wire n user wire wiring ≡ Ok (with_used wiring wire)
+use_wire-fine n user wiring wire h unused =
     let time = h.2 in
-    let gap : is_gap phases h.0 user ≡ true = and_from (nat_lt h.0 user) (nat_le user (h.0 + phases)) (lt-ltb h.0 user time.after) (le-leb user (h.0 + phases) time.within) in
-    ap (λ r. r >>= λ stage. used_in_time wiring wire stage user (is_gap phases stage user)) (source_stage-fine wiring wire h.0 h.1 unused) ∙ ap (used_in_time wiring wire h.0 user) gap
+    let gap : is_gap n h.0 user ≡ true = and_from (nat_lt h.0 user) (nat_le user (h.0 + n)) (lt-ltb h.0 user time.after) (le-leb user (h.0 + n) time.within) in
+    ap (λ r. r >>= λ stage. used_in_time wiring wire stage user (is_gap n stage user)) (source_stage-fine wiring wire h.0 h.1 unused) ∙ ap (used_in_time wiring wire h.0 user) gap
 
 -- one wire more is done of those that are to be done
 one-more : (done : List ℕ) (wire : ℕ) (todo : List ℕ) → IsDistinct nat_eq (done ++ wire ∷ todo) → IsDistinct nat_eq ((done ++ wire ∷ []) ++ todo)
@@ -131,22 +134,22 @@ one-more done wire todo h = subst (IsDistinct nat_eq) (sym (append_assoc done (w
 abbrev and_then : Wiring → Wires ℕ → List ℕ → Wiring
 and_then wiring made used = record { made = wiring.made ++ made; used = wiring.used ++ used }
 
-use_pins-fine : (phases user : ℕ) (pins todo : List ℕ) (wiring : Wiring) → ArriveInTime phases wiring.made user pins → IsDistinct nat_eq (wiring.used ++ (pins ++ todo)) → use_pins phases user pins wiring ≡ Ok (record { made = wiring.made; used = wiring.used ++ pins })
-use_pins-fine phases user [] todo wiring h d =
+use_pins-fine : (n user : ℕ) (pins todo : List ℕ) (wiring : Wiring) → ArriveInTime n wiring.made user pins → IsDistinct nat_eq (wiring.used ++ (pins ++ todo)) → use_pins n user pins wiring ≡ Ok (record { made = wiring.made; used = wiring.used ++ pins })
+use_pins-fine n user [] todo wiring h d =
     ap (λ u. Ok (record { made = wiring.made; used = u })) (sym (append-nil wiring.used))
-use_pins-fine phases user (pin ∷ pins) todo wiring h d =
-    ap (λ r. r >>= use_pins phases user pins) (use_wire-fine phases user wiring pin h.0 (is_among-next wiring.used (pins ++ todo) pin d))
-    ∙ use_pins-fine phases user pins todo (with_used wiring pin) h.1 (one-more wiring.used pin (pins ++ todo) d)
+use_pins-fine n user (pin ∷ pins) todo wiring h d =
+    ap (λ r. r >>= use_pins n user pins) (use_wire-fine n user wiring pin h.0 (is_among-next wiring.used (pins ++ todo) pin d))
+    ∙ use_pins-fine n user pins todo (with_used wiring pin) h.1 (one-more wiring.used pin (pins ++ todo) d)
     ∙ ap (λ u. Ok (record { made = wiring.made; used = u })) (append_assoc wiring.used (pin ∷ []) pins)
 
 keys-made : (made : Wires ℕ) (wire stage : ℕ) → keys_of (made ++ (wire, stage) ∷ []) ≡ keys_of made ++ wire ∷ []
 keys-made made wire stage = map-append (λ (e : ℕ × ℕ). e.0) made ((wire, stage) ∷ [])
 
-wire_element-fine : (phases : ℕ) (element : Element) (to_make to_use : List ℕ) (wiring : Wiring) → ElementInTime phases wiring.made element → IsDistinct nat_eq (keys_of wiring.made ++ (element_makes element ++ to_make)) → IsDistinct nat_eq (wiring.used ++ (element_uses element ++ to_use)) → wire_element phases element wiring ≡ Ok (and_then wiring (element_wires 0 cell_stage wiring.made element) (element_uses element))
-wire_element-fine phases (Clocked cell stage pins out) to_make to_use wiring h m u =
-    ap (λ r. r >>= make_wire out stage) (use_pins-fine phases stage pins to_use wiring h u)
+wire_element-fine : (n : ℕ) (element : Element) (to_make to_use : List ℕ) (wiring : Wiring) → ElementInTime n wiring.made element → IsDistinct nat_eq (keys_of wiring.made ++ (element_makes element ++ to_make)) → IsDistinct nat_eq (wiring.used ++ (element_uses element ++ to_use)) → wire_element n element wiring ≡ Ok (and_then wiring (element_wires 0 cell_stage wiring.made element) (element_uses element))
+wire_element-fine n (Clocked cell stage pins out) to_make to_use wiring h m u =
+    ap (λ r. r >>= make_wire out stage) (use_pins-fine n stage pins to_use wiring h u)
     ∙ make_wire-fine (record { made = wiring.made; used = wiring.used ++ pins }) out stage (is_among-next (keys_of wiring.made) to_make out m)
-wire_element-fine phases (Split from left right) to_make to_use wiring h m u =
+wire_element-fine n (Split from left right) to_make to_use wiring h m u =
     let s = h.0 in
     let stage : s ≡ carried 0 wiring.made from = ap (λ o. unwrap_or o 0) (sym h.1) in
     let free = is_among-next wiring.used to_use from u in
@@ -157,36 +160,36 @@ wire_element-fine phases (Split from left right) to_make to_use wiring h m u =
     ∙ make_wire-fine one right s second
     ∙ ap (λ made. Ok (record { made = made; used = wiring.used ++ from ∷ [] })) (append_assoc wiring.made ((left, s) ∷ []) ((right, s) ∷ []) ∙ ap (λ x. wiring.made ++ (left, x) ∷ ((right, x) ∷ [])) stage)
 
-wire_elements-fine : (phases place : ℕ) (elements : List Element) (to_use : List ℕ) (wiring : Wiring) → ElementsInTime phases wiring.made elements → IsDistinct nat_eq (keys_of wiring.made ++ flat_map element_makes elements) → IsDistinct nat_eq (wiring.used ++ (flat_map element_uses elements ++ to_use)) → wire_elements phases place elements wiring ≡ Ok (record { made = after_elements 0 cell_stage wiring.made elements; used = wiring.used ++ flat_map element_uses elements })
-wire_elements-fine phases place [] to_use wiring h m u =
+wire_elements-fine : (n place : ℕ) (elements : List Element) (to_use : List ℕ) (wiring : Wiring) → ElementsInTime n wiring.made elements → IsDistinct nat_eq (keys_of wiring.made ++ flat_map element_makes elements) → IsDistinct nat_eq (wiring.used ++ (flat_map element_uses elements ++ to_use)) → wire_elements n place elements wiring ≡ Ok (record { made = after_elements 0 cell_stage wiring.made elements; used = wiring.used ++ flat_map element_uses elements })
+wire_elements-fine n place [] to_use wiring h m u =
     ap (λ u. Ok (record { made = wiring.made; used = u })) (sym (append-nil wiring.used))
-wire_elements-fine phases place (element ∷ elements) to_use wiring h m u =
+wire_elements-fine n place (element ∷ elements) to_use wiring h m u =
     let new = element_wires 0 cell_stage wiring.made element in
     let makes = flat_map element_makes elements in
     let uses = flat_map element_uses elements in
     let next = and_then wiring new (element_uses element) in
     let keys : keys_of wiring.made ++ (element_makes element ++ makes) ≡ keys_of next.made ++ makes = sym (append_assoc (keys_of wiring.made) (element_makes element) makes) ∙ ap (λ k. k ++ makes) (ap (λ k. keys_of wiring.made ++ k) (sym (keys-element wiring.made element)) ∙ sym (map-append (λ (e : ℕ × ℕ). e.0) wiring.made new)) in
     let u' : IsDistinct nat_eq (wiring.used ++ (element_uses element ++ (uses ++ to_use))) = subst (λ l. IsDistinct nat_eq (wiring.used ++ l)) (append_assoc (element_uses element) uses to_use) u in
-    ap (λ r. at (AtElement place) r >>= wire_elements phases (place + 1) elements) (wire_element-fine phases element makes (uses ++ to_use) wiring h.0 m u')
-    ∙ wire_elements-fine phases (place + 1) elements to_use next h.1 (subst (IsDistinct nat_eq) keys m) (subst (IsDistinct nat_eq) (sym (append_assoc wiring.used (element_uses element) (uses ++ to_use))) u')
+    ap (λ r. at (AtElement place) r >>= wire_elements n (place + 1) elements) (wire_element-fine n element makes (uses ++ to_use) wiring h.0 m u')
+    ∙ wire_elements-fine n (place + 1) elements to_use next h.1 (subst (IsDistinct nat_eq) keys m) (subst (IsDistinct nat_eq) (sym (append_assoc wiring.used (element_uses element) (uses ++ to_use))) u')
     ∙ ap (λ u. Ok (record { made = after_elements 0 cell_stage next.made elements; used = u })) (append_assoc wiring.used (element_uses element) uses)
 
-wire_output-fine : (phases latency : ℕ) (outlet : Outlet) (to_use : List ℕ) (wiring : Wiring) → OutletInTime phases (phases * latency) wiring.made outlet → IsDistinct nat_eq (wiring.used ++ (outlet_uses outlet ++ to_use)) → wire_output phases latency outlet wiring ≡ Ok (record { made = wiring.made; used = wiring.used ++ outlet_uses outlet })
-wire_output-fine phases latency Zero to_use wiring h u =
+wire_output-fine : (n latency : ℕ) (outlet : Outlet) (to_use : List ℕ) (wiring : Wiring) → OutletInTime n (n * latency) wiring.made outlet → IsDistinct nat_eq (wiring.used ++ (outlet_uses outlet ++ to_use)) → wire_output n latency outlet wiring ≡ Ok (record { made = wiring.made; used = wiring.used ++ outlet_uses outlet })
+wire_output-fine n latency Zero to_use wiring h u =
     ap (λ u. Ok (record { made = wiring.made; used = u })) (sym (append-nil wiring.used))
-wire_output-fine phases latency One to_use wiring h u =
+wire_output-fine n latency One to_use wiring h u =
     ap (λ u. Ok (record { made = wiring.made; used = u })) (sym (append-nil wiring.used))
-wire_output-fine phases latency (Wire wire) to_use wiring h u =
-    use_wire-fine phases (phases * latency) wiring wire h (is_among-next wiring.used to_use wire u)
+wire_output-fine n latency (Wire wire) to_use wiring h u =
+    use_wire-fine n (n * latency) wiring wire h (is_among-next wiring.used to_use wire u)
 
-wire_outputs-fine : (phases latency place : ℕ) (outlets : List Outlet) (wiring : Wiring) → OutletsInTime phases (phases * latency) wiring.made outlets → IsDistinct nat_eq (wiring.used ++ flat_map outlet_uses outlets) → wire_outputs phases latency place outlets wiring ≡ Ok (record { made = wiring.made; used = wiring.used ++ flat_map outlet_uses outlets })
-wire_outputs-fine phases latency place [] wiring h u =
+wire_outputs-fine : (n latency place : ℕ) (outlets : List Outlet) (wiring : Wiring) → OutletsInTime n (n * latency) wiring.made outlets → IsDistinct nat_eq (wiring.used ++ flat_map outlet_uses outlets) → wire_outputs n latency place outlets wiring ≡ Ok (record { made = wiring.made; used = wiring.used ++ flat_map outlet_uses outlets })
+wire_outputs-fine n latency place [] wiring h u =
     ap (λ u. Ok (record { made = wiring.made; used = u })) (sym (append-nil wiring.used))
-wire_outputs-fine phases latency place (outlet ∷ outlets) wiring h u =
+wire_outputs-fine n latency place (outlet ∷ outlets) wiring h u =
     let uses = flat_map outlet_uses outlets in
     let next : Wiring = record { made = wiring.made; used = wiring.used ++ outlet_uses outlet } in
-    ap (λ r. at (Output place) r >>= wire_outputs phases latency (place + 1) outlets) (wire_output-fine phases latency outlet uses wiring h.0 u)
-    ∙ wire_outputs-fine phases latency (place + 1) outlets next h.1 (subst (IsDistinct nat_eq) (sym (append_assoc wiring.used (outlet_uses outlet) uses)) u)
+    ap (λ r. at (Output place) r >>= wire_outputs n latency (place + 1) outlets) (wire_output-fine n latency outlet uses wiring h.0 u)
+    ∙ wire_outputs-fine n latency (place + 1) outlets next h.1 (subst (IsDistinct nat_eq) (sym (append_assoc wiring.used (outlet_uses outlet) uses)) u)
     ∙ ap (λ u. Ok (record { made = wiring.made; used = u })) (append_assoc wiring.used (outlet_uses outlet) uses)
 
 wire_inputs-fine : (place : ℕ) (inputs : List (Option ℕ)) (to_make : List ℕ) (wiring : Wiring) → IsDistinct nat_eq (keys_of wiring.made ++ (flat_map option_to_list inputs ++ to_make)) → wire_inputs place inputs wiring ≡ Ok (record { made = wiring.made ++ input_entries input_stage place inputs; used = wiring.used })

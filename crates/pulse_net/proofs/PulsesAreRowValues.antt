@@ -1,4 +1,7 @@
 -- In a valid netlist the pulses are the row values, and so is what is read at the outputs.
+mod WindowLemma
+mod SpreadRows
+mod PulseInduction
 use Rattle.std.proofs.Common.{◌≡◌, ℕ, zero, suc, ◌+◌, ◌*◌, ◌%◌, ◌≤◌, Bool, false, List, [], ◌∷◌, get_or, sym, ◌∙◌, arith}
 use Rattle.std.specs.Prelude.{Option, slice_index_or}
 use Rattle.std.proofs.lemmas.Bool.{eqb-true, eq-eqb, true≢false, false_from_ne_true}
@@ -13,11 +16,11 @@ use Rattle.pulse_net.specs.Validity.{IsValid}
 use Rattle.pulse_net.specs.Pulses.{Signal, silence, pulsed_within, signals_of, outlet_signal, spread, input_signal, cell_signal}
 use Rattle.pulse_net.specs.RowValues.{row_values, outlet_value, input_value, stageless_value}
 use Rattle.pulse_net.specs.Laws.{PulsesAreRowValues, ReadsAreRowValues}
-use Rattle.pulse_net.proofs.Windows.{pulsed_within-at_clock, pulsed_within-tick}
+use Rattle.pulse_net.proofs.PulsesAreRowValues.WindowLemma.{pulsed_within-at_clock, pulsed_within-tick}
 use Rattle.pulse_net.specs.Wired.{ElementsInTime, OutletInTime, OutletsInTime}
-use Rattle.pulse_net.proofs.Unbroken.{wired}
-use Rattle.pulse_net.proofs.Readings.{related-found}
-use Rattle.pulse_net.proofs.Carried.{Aligned, elements_carry, inputs_carry}
+use Rattle.pulse_net.proofs.UnbrokenIsWired.{wired}
+use Rattle.pulse_net.proofs.RelatedWires.{related-found}
+use Rattle.pulse_net.proofs.PulsesAreRowValues.PulseInduction.{Aligned, elements_carry, inputs_carry}
 
 -- each wire carries its row value, where the sources of all elements are made in time
 carry : (n : ℕ) → 1 ≤ n → (rows : List (List Bool)) (c : ℕ) (inputs : List (Option ℕ)) (elements : List Element) → ElementsInTime n (input_entries input_stage 0 inputs) elements → Aligned n c (after_elements 0 cell_stage (input_entries input_stage 0 inputs) elements) (after_elements false stageless_value (input_entries (input_value (get_or rows c [])) 0 inputs) elements) (after_elements silence (cell_signal n) (input_entries (input_signal (spread n rows)) 0 inputs) elements)
@@ -41,10 +44,10 @@ outlet_reads n some c latency late stages values signals p (Wire wire) h =
     let e : n * (c + latency) ≡ n * c + n * latency = grind arith in
     pulsed_within-at_clock n (carried silence signals wire) (n * (c + latency)) (n * c + s) (λ t q. pulses.clocked t q ∙ sym clock) (omega (arith, time.after)) (omega (arith, time.within)) ∙ pulses.on_time
 
-outlets-at : (phases user : ℕ) (made : Wires ℕ) (outlets : List Outlet) (output : ℕ) → OutletsInTime phases user made outlets → OutletInTime phases user made (slice_index_or outlets output Zero)
-outlets-at phases user made [] output h = tt
-outlets-at phases user made (outlet ∷ outlets) zero h = h.0
-outlets-at phases user made (outlet ∷ outlets) (suc output) h = outlets-at phases user made outlets output h.1
+outlets-at : (n user : ℕ) (made : Wires ℕ) (outlets : List Outlet) (output : ℕ) → OutletsInTime n user made outlets → OutletInTime n user made (slice_index_or outlets output Zero)
+outlets-at n user made [] output h = tt
+outlets-at n user made (outlet ∷ outlets) zero h = h.0
+outlets-at n user made (outlet ∷ outlets) (suc output) h = outlets-at n user made outlets output h.1
 
 module _ (net : PulseNet) (valid : IsValid net) where
   aligned-valid : (rows : List (List Bool)) (c : ℕ) → Aligned net.phases c (stages_of net) (row_values net (get_or rows c [])) (signals_of net (spread net.phases rows))

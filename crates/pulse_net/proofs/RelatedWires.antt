@@ -4,7 +4,7 @@ use Rattle.std.specs.Prelude.{Some, None, unwrap_or, ◌==◌, if◌then◌else�
 use Rattle.gate_net.specs.declared.row.Driver.{Driver}
 use Rattle.pulse_net.specs.Wires.{Wires, found, carried}
 use Rattle.pulse_net.specs.Unfolding.{with_wire}
-use Rattle.pulse_net.proofs.Tables.{with_wire-new}
+use Rattle.pulse_net.proofs.InsertedWires.{with_wire-new}
 
 pub data Related {A B C : Type 0} (R : A → B → C → Type 0) : Wires A → Wires B → Wires C → Type 0 where
   none : Related R [] [] []

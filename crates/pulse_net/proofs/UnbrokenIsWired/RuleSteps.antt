@@ -49,10 +49,10 @@ ok_used h = cc
 abbrev pub with_made : Wiring → ℕ → ℕ → Wiring
 with_made wiring wire stage = record { made = wiring.made ++ (wire, stage) ∷ []; used = wiring.used }
 
-is_gap-true : (phases stage user : ℕ) → is_gap phases stage user ≡ true → IsInTime phases stage user
-is_gap-true phases stage user h =
-    let parts = and_parts (nat_lt stage user) (nat_le user (stage + phases)) h in
-    record { after = ltb-true stage user parts.0; within = leb-true user (stage + phases) parts.1 }
+is_gap-true : (n stage user : ℕ) → is_gap n stage user ≡ true → IsInTime n stage user
+is_gap-true n stage user h =
+    let parts = and_parts (nat_lt stage user) (nat_le user (stage + n)) h in
+    record { after = ltb-true stage user parts.0; within = leb-true user (stage + n) parts.1 }
 
 once-made : (wiring : Wiring) (wire stage : ℕ) → found wiring.made wire ≡ None → IsOnce wiring → IsOnce (with_made wiring wire stage)
 once-made wiring wire stage new once =
@@ -94,56 +94,56 @@ source_stage-ok : (wiring : Wiring) (wire stage : ℕ) → source_stage wiring w
 source_stage-ok wiring wire stage h = used_once-ok wiring wire stage (found wiring.made wire) (is_among nat_eq wire wiring.used) refl refl h
 
 -- a free wire is used in time
-record Uses (phases user : ℕ) (wiring : Wiring) (wire : ℕ) (after : Wiring) : Type 0 where
+record Uses (n user : ℕ) (wiring : Wiring) (wire : ℕ) (after : Wiring) : Type 0 where
   stage : ℕ
   free : IsFree wiring wire stage
-  in_time : IsInTime phases stage user
+  in_time : IsInTime n stage user
   gives : after ≡ with_used wiring wire
   once : IsOnce wiring → IsOnce after
 
-used_in_time-ok : (phases : ℕ) (wiring : Wiring) (wire stage user : ℕ) (ok : Bool) (after : Wiring) → is_gap phases stage user ≡ ok → IsFree wiring wire stage → used_in_time wiring wire stage user ok ≡ Ok after → Uses phases user wiring wire after
-used_in_time-ok phases wiring wire stage user true after e free h =
+used_in_time-ok : (n : ℕ) (wiring : Wiring) (wire stage user : ℕ) (ok : Bool) (after : Wiring) → is_gap n stage user ≡ ok → IsFree wiring wire stage → used_in_time wiring wire stage user ok ≡ Ok after → Uses n user wiring wire after
+used_in_time-ok n wiring wire stage user true after e free h =
     let gives : after ≡ with_used wiring wire = cc in
-    record { stage = stage; free = free; in_time = is_gap-true phases stage user e; gives = gives; once = λ o. subst IsOnce (sym gives) (once-used wiring wire free.unused o) }
-used_in_time-ok phases wiring wire stage user false after e free h = cc
+    record { stage = stage; free = free; in_time = is_gap-true n stage user e; gives = gives; once = λ o. subst IsOnce (sym gives) (once-used wiring wire free.unused o) }
+used_in_time-ok n wiring wire stage user false after e free h = cc
 
-use_wire-ok : (phases user wire : ℕ) (wiring after : Wiring) → use_wire phases user wire wiring ≡ Ok after → Uses phases user wiring wire after
-use_wire-ok phases user wire wiring after h =
-    let s = bind-Ok (source_stage wiring wire) (λ stage. used_in_time wiring wire stage user (is_gap phases stage user)) after h in
-    used_in_time-ok phases wiring wire s.0 user (is_gap phases s.0 user) after refl (source_stage-ok wiring wire s.0 s.1) s.2
+use_wire-ok : (n user wire : ℕ) (wiring after : Wiring) → use_wire n user wire wiring ≡ Ok after → Uses n user wiring wire after
+use_wire-ok n user wire wiring after h =
+    let s = bind-Ok (source_stage wiring wire) (λ stage. used_in_time wiring wire stage user (is_gap n stage user)) after h in
+    used_in_time-ok n wiring wire s.0 user (is_gap n s.0 user) after refl (source_stage-ok wiring wire s.0 s.1) s.2
 
 -- the pins of a cell are used
-record UsesAll (phases user : ℕ) (wiring : Wiring) (pins : List ℕ) (after : Wiring) : Type 0 where
-  in_time : ArriveInTime phases wiring.made user pins
+record UsesAll (n user : ℕ) (wiring : Wiring) (pins : List ℕ) (after : Wiring) : Type 0 where
+  in_time : ArriveInTime n wiring.made user pins
   made : after.made ≡ wiring.made
   used : after.used ≡ wiring.used ++ pins
   once : IsOnce wiring → IsOnce after
 
-use_pins-ok : (phases user : ℕ) (pins : List ℕ) (wiring after : Wiring) → use_pins phases user pins wiring ≡ Ok after → UsesAll phases user wiring pins after
-use_pins-ok phases user [] wiring after h = record { in_time = tt; made = ok_made h; used = ok_used h ∙ sym (append-nil wiring.used); once = ok_once h }
-use_pins-ok phases user (pin ∷ pins) wiring after h =
-    let s = bind-Ok (use_wire phases user pin wiring) (use_pins phases user pins) after h in
-    let one = use_wire-ok phases user pin wiring s.0 s.1 in
-    let rest = use_pins-ok phases user pins s.0 after s.2 in
+use_pins-ok : (n user : ℕ) (pins : List ℕ) (wiring after : Wiring) → use_pins n user pins wiring ≡ Ok after → UsesAll n user wiring pins after
+use_pins-ok n user [] wiring after h = record { in_time = tt; made = ok_made h; used = ok_used h ∙ sym (append-nil wiring.used); once = ok_once h }
+use_pins-ok n user (pin ∷ pins) wiring after h =
+    let s = bind-Ok (use_wire n user pin wiring) (use_pins n user pins) after h in
+    let one = use_wire-ok n user pin wiring s.0 s.1 in
+    let rest = use_pins-ok n user pins s.0 after s.2 in
     let same : s.0.made ≡ wiring.made = ap (λ (w : Wiring). w.made) one.gives in
     record {
-      in_time = ((one.stage, one.free.made, one.in_time), subst (λ m. ArriveInTime phases m user pins) same rest.in_time);
+      in_time = ((one.stage, one.free.made, one.in_time), subst (λ m. ArriveInTime n m user pins) same rest.in_time);
       made = rest.made ∙ same;
       used = rest.used ∙ ap (λ (w : Wiring). w.used ++ pins) one.gives ∙ append_assoc wiring.used (pin ∷ []) pins;
       once = λ o. rest.once (one.once o);
     }
 
 -- an element uses its sources and makes its wires
-record WiresElement (phases : ℕ) (wiring : Wiring) (element : Element) (after : Wiring) : Type 0 where
-  in_time : ElementInTime phases wiring.made element
+record WiresElement (n : ℕ) (wiring : Wiring) (element : Element) (after : Wiring) : Type 0 where
+  in_time : ElementInTime n wiring.made element
   made : after.made ≡ wiring.made ++ element_wires 0 cell_stage wiring.made element
   used : after.used ≡ wiring.used ++ element_uses element
   once : IsOnce wiring → IsOnce after
 
-wire_element-ok : (phases : ℕ) (element : Element) (wiring after : Wiring) → wire_element phases element wiring ≡ Ok after → WiresElement phases wiring element after
-wire_element-ok phases (Clocked cell stage pins out) wiring after h =
-    let s = bind-Ok (use_pins phases stage pins wiring) (make_wire out stage) after h in
-    let all = use_pins-ok phases stage pins wiring s.0 s.1 in
+wire_element-ok : (n : ℕ) (element : Element) (wiring after : Wiring) → wire_element n element wiring ≡ Ok after → WiresElement n wiring element after
+wire_element-ok n (Clocked cell stage pins out) wiring after h =
+    let s = bind-Ok (use_pins n stage pins wiring) (make_wire out stage) after h in
+    let all = use_pins-ok n stage pins wiring s.0 s.1 in
     let makes = make_wire-ok s.0 out stage after s.2 in
     record {
       in_time = all.in_time;
@@ -151,7 +151,7 @@ wire_element-ok phases (Clocked cell stage pins out) wiring after h =
       used = ap (λ (w : Wiring). w.used) makes.gives ∙ all.used;
       once = λ o. makes.once (all.once o);
     }
-wire_element-ok phases (Split from left right) wiring after h =
+wire_element-ok n (Split from left right) wiring after h =
     let s = bind-Ok (source_stage wiring from) (λ stage. make_wire left stage (with_used wiring from) >>= make_wire right stage) after h in
     let free = source_stage-ok wiring from s.0 s.1 in
     let t = bind-Ok (make_wire left s.0 (with_used wiring from)) (make_wire right s.0) after s.2 in
@@ -165,39 +165,39 @@ wire_element-ok phases (Split from left right) wiring after h =
       once = λ o. two.once (one.once (once-used wiring from free.unused o));
     }
 
-pub record WiresElements (phases : ℕ) (wiring : Wiring) (elements : List Element) (after : Wiring) : Type 0 where
-  pub in_time : ElementsInTime phases wiring.made elements
+pub record WiresElements (n : ℕ) (wiring : Wiring) (elements : List Element) (after : Wiring) : Type 0 where
+  pub in_time : ElementsInTime n wiring.made elements
   pub made : after.made ≡ after_elements 0 cell_stage wiring.made elements
   pub used : after.used ≡ wiring.used ++ flat_map element_uses elements
   pub once : IsOnce wiring → IsOnce after
 
-pub wire_elements-ok : (phases place : ℕ) (elements : List Element) (wiring after : Wiring) → wire_elements phases place elements wiring ≡ Ok after → WiresElements phases wiring elements after
-wire_elements-ok phases place [] wiring after h =
+pub wire_elements-ok : (n place : ℕ) (elements : List Element) (wiring after : Wiring) → wire_elements n place elements wiring ≡ Ok after → WiresElements n wiring elements after
+wire_elements-ok n place [] wiring after h =
     record { in_time = tt; made = ok_made h; used = ok_used h ∙ sym (append-nil wiring.used); once = ok_once h }
-wire_elements-ok phases place (element ∷ elements) wiring after h =
-    let s = bind-Ok (at (AtElement place) (wire_element phases element wiring)) (wire_elements phases (place + 1) elements) after h in
-    let one = wire_element-ok phases element wiring s.0 (at-ok (AtElement place) (wire_element phases element wiring) s.0 s.1) in
-    let rest = wire_elements-ok phases (place + 1) elements s.0 after s.2 in
+wire_elements-ok n place (element ∷ elements) wiring after h =
+    let s = bind-Ok (at (AtElement place) (wire_element n element wiring)) (wire_elements n (place + 1) elements) after h in
+    let one = wire_element-ok n element wiring s.0 (at-ok (AtElement place) (wire_element n element wiring) s.0 s.1) in
+    let rest = wire_elements-ok n (place + 1) elements s.0 after s.2 in
     record {
-      in_time = (one.in_time, subst (λ m. ElementsInTime phases m elements) one.made rest.in_time);
+      in_time = (one.in_time, subst (λ m. ElementsInTime n m elements) one.made rest.in_time);
       made = rest.made ∙ ap (λ m. after_elements 0 cell_stage m elements) one.made;
       used = rest.used ∙ ap (λ u. u ++ flat_map element_uses elements) one.used ∙ append_assoc wiring.used (element_uses element) (flat_map element_uses elements);
       once = λ o. rest.once (one.once o);
     }
 
-record WiresOutlet (phases user : ℕ) (wiring : Wiring) (outlet : Outlet) (after : Wiring) : Type 0 where
-  in_time : OutletInTime phases user wiring.made outlet
+record WiresOutlet (n user : ℕ) (wiring : Wiring) (outlet : Outlet) (after : Wiring) : Type 0 where
+  in_time : OutletInTime n user wiring.made outlet
   made : after.made ≡ wiring.made
   used : after.used ≡ wiring.used ++ outlet_uses outlet
   once : IsOnce wiring → IsOnce after
 
-wire_output-ok : (phases latency : ℕ) (outlet : Outlet) (wiring after : Wiring) → wire_output phases latency outlet wiring ≡ Ok after → WiresOutlet phases (phases * latency) wiring outlet after
-wire_output-ok phases latency Zero wiring after h =
+wire_output-ok : (n latency : ℕ) (outlet : Outlet) (wiring after : Wiring) → wire_output n latency outlet wiring ≡ Ok after → WiresOutlet n (n * latency) wiring outlet after
+wire_output-ok n latency Zero wiring after h =
     record { in_time = tt; made = ok_made h; used = ok_used h ∙ sym (append-nil wiring.used); once = ok_once h }
-wire_output-ok phases latency One wiring after h =
+wire_output-ok n latency One wiring after h =
     record { in_time = tt; made = ok_made h; used = ok_used h ∙ sym (append-nil wiring.used); once = ok_once h }
-wire_output-ok phases latency (Wire wire) wiring after h =
-    let one = use_wire-ok phases (phases * latency) wire wiring after h in
+wire_output-ok n latency (Wire wire) wiring after h =
+    let one = use_wire-ok n (n * latency) wire wiring after h in
     record {
       in_time = (one.stage, one.free.made, one.in_time);
       made = ap (λ (w : Wiring). w.made) one.gives;
@@ -205,21 +205,21 @@ wire_output-ok phases latency (Wire wire) wiring after h =
       once = one.once;
     }
 
-pub record WiresOutlets (phases user : ℕ) (wiring : Wiring) (outlets : List Outlet) (after : Wiring) : Type 0 where
-  pub in_time : OutletsInTime phases user wiring.made outlets
+pub record WiresOutlets (n user : ℕ) (wiring : Wiring) (outlets : List Outlet) (after : Wiring) : Type 0 where
+  pub in_time : OutletsInTime n user wiring.made outlets
   pub made : after.made ≡ wiring.made
   pub used : after.used ≡ wiring.used ++ flat_map outlet_uses outlets
   pub once : IsOnce wiring → IsOnce after
 
-pub wire_outputs-ok : (phases latency place : ℕ) (outlets : List Outlet) (wiring after : Wiring) → wire_outputs phases latency place outlets wiring ≡ Ok after → WiresOutlets phases (phases * latency) wiring outlets after
-wire_outputs-ok phases latency place [] wiring after h =
+pub wire_outputs-ok : (n latency place : ℕ) (outlets : List Outlet) (wiring after : Wiring) → wire_outputs n latency place outlets wiring ≡ Ok after → WiresOutlets n (n * latency) wiring outlets after
+wire_outputs-ok n latency place [] wiring after h =
     record { in_time = tt; made = ok_made h; used = ok_used h ∙ sym (append-nil wiring.used); once = ok_once h }
-wire_outputs-ok phases latency place (outlet ∷ outlets) wiring after h =
-    let s = bind-Ok (at (Output place) (wire_output phases latency outlet wiring)) (wire_outputs phases latency (place + 1) outlets) after h in
-    let one = wire_output-ok phases latency outlet wiring s.0 (at-ok (Output place) (wire_output phases latency outlet wiring) s.0 s.1) in
-    let rest = wire_outputs-ok phases latency (place + 1) outlets s.0 after s.2 in
+wire_outputs-ok n latency place (outlet ∷ outlets) wiring after h =
+    let s = bind-Ok (at (Output place) (wire_output n latency outlet wiring)) (wire_outputs n latency (place + 1) outlets) after h in
+    let one = wire_output-ok n latency outlet wiring s.0 (at-ok (Output place) (wire_output n latency outlet wiring) s.0 s.1) in
+    let rest = wire_outputs-ok n latency (place + 1) outlets s.0 after s.2 in
     record {
-      in_time = (one.in_time, subst (λ m. OutletsInTime phases (phases * latency) m outlets) one.made rest.in_time);
+      in_time = (one.in_time, subst (λ m. OutletsInTime n (n * latency) m outlets) one.made rest.in_time);
       made = rest.made ∙ one.made;
       used = rest.used ∙ ap (λ u. u ++ flat_map outlet_uses outlets) one.used ∙ append_assoc wiring.used (outlet_uses outlet) (flat_map outlet_uses outlets);
       once = λ o. rest.once (one.once o);

@@ -12,7 +12,7 @@ use Rattle.gate_net.specs.Values.{gate_value, values_by}
 use Rattle.gate_net.proofs.CallerLemmas.{AreGates-push, driver-more, value-new}
 use Rattle.pulse_net.specs.Wires.{Wires, found}
 use Rattle.pulse_net.specs.Unfolding.{Unfolding}
-use Rattle.pulse_net.proofs.Agree.{Agree}
+use Rattle.pulse_net.proofs.PulsesAreGateValues.DriverValues.{Agree}
 
 -- The gates so far are well formed, and the wire of each is made at the gate's stage and has the gate's value.
 pub record GatesKnown (inputs : ℕ) (bits : List Bool) (gates : List GateRow) (stages outs : List ℕ) (made : Wires ℕ) (values : Wires Bool) : Type 0 where

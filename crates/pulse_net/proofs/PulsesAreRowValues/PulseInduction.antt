@@ -16,9 +16,9 @@ use Rattle.pulse_net.specs.declared.net.Element.TheVariants.{Clocked, Split}
 use Rattle.pulse_net.specs.Wires.{Wires, carried, input_entries, element_wires, after_elements, input_stage, cell_stage}
 use Rattle.pulse_net.specs.Pulses.{Signal, silence, pulsed_within, input_signal, on_clock, window_value, cell_signal, spread}
 use Rattle.pulse_net.specs.RowValues.{input_value, stageless_value}
-use Rattle.pulse_net.proofs.Readings.{Related, none, more, related-append, related-found}
-use Rattle.pulse_net.proofs.Windows.{pulsed_within-at_clock}
-use Rattle.pulse_net.proofs.Spread.{spread-row, spread-clocked}
+use Rattle.pulse_net.proofs.RelatedWires.{Related, none, more, related-append, related-found}
+use Rattle.pulse_net.proofs.PulsesAreRowValues.WindowLemma.{pulsed_within-at_clock}
+use Rattle.pulse_net.proofs.PulsesAreRowValues.SpreadRows.{spread-row, spread-clocked}
 use Rattle.pulse_net.specs.Wired.{ArriveInTime, ElementInTime, ElementsInTime}
 
 -- With n phases, a signal of a wire of stage s keeps to the clock of s, and at tick n * c + s it pulses where the value is
