@@ -33,8 +33,6 @@ mod layout;
 mod spread;
 mod table;
 mod taps;
-#[cfg(test)]
-mod tests;
 
 pub use build::split;
 pub use fits::can_split;
