@@ -1,4 +1,4 @@
-use Rattle.splitters.proofs.LayoutCount.{wires-fit}
+use Rattle.splitters.proofs.wires.Count.{wires-fit}
 use Rattle.splitters.proofs.build.tapped_parts.Goals as goal
 
 pub lay_out-requires-clause-room : goal.lay_out-requires-clause-room

@@ -24,7 +24,7 @@ pub times-append : (wire : ℕ) (xs ys : List ℕ) → times wire (xs ++ ys) ≡
 times-append wire [] ys = omega arith
 times-append wire (x ∷ xs) ys = let rest = times-append wire xs ys in omega (arith, rest)
 
--- so many wires in order, from one on
+-- `count` wires in order, from one on
 abbrev pub run : ℕ → ℕ → List ℕ
 run from zero = []
 run from (suc count) = from ∷ run (suc from) count

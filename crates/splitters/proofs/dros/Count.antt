@@ -20,8 +20,8 @@ use Rattle.flow_net.proofs.CallerLemmas.{use_drivers-are-pin_drivers, is_used-us
 use Rattle.dro_chains.specs.Chains.{chained_of}
 use Rattle.splitters.specs.Taps.{tap_count, taps_of, input_dros, gate_dros, chain_dros}
 use Rattle.splitters.specs.Laws.{DrosAreTheCount}
-use Rattle.splitters.proofs.TapLemmas.{length-taps_at}
-use Rattle.splitters.proofs.WiredDros.{no-taps, dros_are_the_chains}
+use Rattle.splitters.proofs.tapped.Table.{length-taps_at}
+use Rattle.splitters.proofs.dros.Laid.{no-taps, dros_are_the_chains}
 
 -- a driver has its number alone among these uses
 abbrev HasItsNumber : GateNet → Driver → List Use → Type 0
@@ -121,7 +121,7 @@ chains_are_the_count net phases n epochs formed =
     let none : sum (chain_lengths epochs (network_of net phases).pins (used_below (uses_of net) 0)) ≡ 0 = refl in
     omega (arith, b, c, y, v, u, none)
 
--- They are laid out with as many DROs, and the count is the sum of the chain lengths.
+-- They are laid out with that number of DROs, and the count is the sum of the chain lengths.
 pub dros_are_the_count : DrosAreTheCount
 dros_are_the_count net phases n epochs names has =
     let formed = has.fits.network.formed in

@@ -26,10 +26,10 @@ use Rattle.pulse_net.specs.Wired.{IsInTime}
 use Rattle.dro_chains.specs.declared.chain.Chained.{Chained}
 use Rattle.splitters.specs.Elements.{gate_pins}
 use Rattle.splitters.specs.Laws.{PinsInTime, GatesInTime, ChainsKeepTime, ChainsAreValid}
-use Rattle.splitters.proofs.WiredGates.{AreGatesFrom}
-use Rattle.splitters.proofs.WiredWhole.{gates-all, layout_is_valid}
+use Rattle.splitters.proofs.valid.Gates.{AreGatesFrom}
+use Rattle.splitters.proofs.valid.Whole.{gates-all, layout_is_valid}
 
--- A pin behind as many DROs as it needs is read in time.
+-- A pin behind the DROs that it needs is read in time.
 need-in_time : (n user_epoch user_phase driver_epoch driver_phase : ℕ) → 0 < n → user_phase < n → driver_phase < n → driver_epoch + weight_of user_phase driver_phase ≤ user_epoch →
     IsInTime n (stage_of n driver_epoch driver_phase + n * need_over_epochs user_epoch driver_epoch (weight_of user_phase driver_phase)) (stage_of n user_epoch user_phase)
 need-in_time n a p b q some pn qn balanced =

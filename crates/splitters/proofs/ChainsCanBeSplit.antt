@@ -10,9 +10,9 @@ use Rattle.dro_chains.proofs.CallerLemmas.{get_or-stages}
 use Rattle.dro_chains.specs.declared.chain.Chained.{Chained}
 use Rattle.splitters.specs.Elements.{gate_pins}
 use Rattle.splitters.specs.Laws.{tap_stage, PinsInTime, GatesInTime, ChainsCanBeSplit}
-use Rattle.splitters.proofs.LayoutLemmas.{length-gate_drivers}
-use Rattle.splitters.proofs.WiredTimes.{chains_keep_time}
-use Rattle.splitters.proofs.WiredCount.{chains_are_the_count}
+use Rattle.splitters.proofs.wires.Steps.{length-gate_drivers}
+use Rattle.splitters.proofs.valid.Timing.{chains_keep_time}
+use Rattle.splitters.proofs.dros.Count.{chains_are_the_count}
 
 -- the stage of the tap of each of these pins, from a number on, fits
 abbrev TapsFit : Chained → ℕ → List Driver → Type 0

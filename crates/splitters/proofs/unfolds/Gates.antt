@@ -14,12 +14,12 @@ use Rattle.pulse_net.proofs.CallerLemmas.{carried-found, unfold_elements-append,
 use Rattle.dro_chains.specs.declared.chain.Chained.{Chained}
 use Rattle.splitters.specs.Elements.{Layout, with_cell, with_chain, with_gate, with_gates, gate_pins}
 use Rattle.splitters.specs.Taps.{tap_count, taps_at}
-use Rattle.splitters.proofs.WiredPins.{AreStaged, Agree-all}
-use Rattle.splitters.proofs.Takers.{DrivesNone}
-use Rattle.splitters.proofs.WiredChains.{by_driver, and_driver}
-use Rattle.splitters.proofs.WiredGates.{pin_wires, pin_wires-take, AreReached, AreStaged-behind, before_gate, before_gate-there, before_gate-next, before_gate-late, DrivesNone-there, DrivesNone-append, AreGatesFrom}
-use Rattle.splitters.proofs.UnfoldsWires.{with_wire-fresh}
-use Rattle.splitters.proofs.UnfoldsChains.{so_far, its_driver, Drives, AreStaged-keep, Step, Step-agree, Drives-chain}
+use Rattle.splitters.proofs.valid.Pins.{AreStaged, MarksAgree-all}
+use Rattle.splitters.proofs.tapped.Takers.{DrivesNone}
+use Rattle.splitters.proofs.valid.Chains.{by_driver, and_driver}
+use Rattle.splitters.proofs.valid.Gates.{pin_wires, pin_wires-take, AreReached, AreStaged-behind, before_gate, before_gate-there, before_gate-next, before_gate-late, DrivesNone-there, DrivesNone-append, AreGatesFrom}
+use Rattle.splitters.proofs.unfolds.Wires.{with_wire-fresh}
+use Rattle.splitters.proofs.unfolds.Chains.{so_far, its_driver, Drives, AreStaged-keep, Step, Step-agree, Drives-chain}
 
 -- the wires of pins whose drivers are reached have just these drivers
 drivers-pins : (made : Wires Driver) (reached : Driver → Bool) (needs taken : List ℕ) (pin : ℕ) (mine rest : List Driver) → AreReached reached mine →
@@ -108,10 +108,10 @@ Adds-gate chained start used rest gate pin row layout gates stages here all othe
     subst (λ (ds : List Driver). Step start chained.needs next rest (by_driver (and_driver reach (Gate gate))) cell (with_chain n user layout.next (taps_at chained.needs ds (Gate gate)) cell)) (sym all)
     (subst (λ p. Step start chained.needs p rest (by_driver (and_driver reach (Gate gate))) cell (with_chain n user layout.next (taps_at chained.needs ((used ++ mine) ++ rest) (Gate gate)) cell)) (sym at) done) in
     let agreed = Step-agree start chained.needs next rest (by_driver (and_driver reach (Gate gate))) (by_driver (before_gate (gate + 1))) cell last
-    (Agree-all (by_driver (and_driver reach (Gate gate))) (by_driver (before_gate (gate + 1))) chained.needs next rest (λ driver need. before_gate-next gate driver)) whole in
+    (MarksAgree-all (by_driver (and_driver reach (Gate gate))) (by_driver (before_gate (gate + 1))) chained.needs next rest (λ driver need. before_gate-next gate driver)) whole in
     record { drives = agreed.drives; gates = agreed.kept.gates ∙ begun.0.gates; stages = agreed.kept.stages ∙ begun.0.stages }
 
--- the stages of so many gates from one on
+-- the stages of gates from one on, `more` of them
 abbrev pub stages_from : List ℕ → ℕ → ℕ → List ℕ
 stages_from stages gate zero = []
 stages_from stages gate (suc more) = slice_index stages gate ∷ stages_from stages (gate + 1) more

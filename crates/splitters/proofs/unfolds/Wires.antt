@@ -10,7 +10,7 @@ use Rattle.pulse_net.specs.Unfolding.{Unfolding, driver_of, with_wire, unfold_el
 use Rattle.pulse_net.proofs.CallerLemmas.{carried-found, unfold_elements-append, with_wire-keeps, with_wire-found, with_wire-other}
 use Rattle.splitters.specs.Spread.{first_half, tree_lines, tree_wires}
 use Rattle.splitters.proofs.Trees.{half-below, rest-below}
-use Rattle.splitters.proofs.WiredCounts.{AreFound, AreFound-append}
+use Rattle.splitters.proofs.valid.Multiplicity.{AreFound, AreFound-append}
 
 -- what is found in the one is found in the other
 abbrev pub Keeps : Wires Driver → Wires Driver → Type 0

@@ -19,12 +19,12 @@ use Rattle.dro_chains.specs.declared.chain.Chained.{Chained}
 use Rattle.splitters.specs.Elements.{Layout, with_cell, with_chain, with_gate, with_gates, gate_pins}
 use Rattle.splitters.specs.Taps.{with_pin, tap_count, taps_at}
 use Rattle.splitters.specs.Laws.{tap_stage, PinsInTime, GatesInTime}
-use Rattle.splitters.proofs.TapLemmas.{tap_count-some}
-use Rattle.splitters.proofs.WiredCounts.{once, times, times-append, after, nat_lt-next}
-use Rattle.splitters.proofs.WiredFrontier.{IsLaid-waits, IsLaid-cell}
-use Rattle.splitters.proofs.WiredPins.{Marks, held, AreStaged, Agree-all}
-use Rattle.splitters.proofs.Takers.{DrivesNone}
-use Rattle.splitters.proofs.WiredChains.{Stands, Stands-agree, AreStaged-step, GoesOn, by_driver, and_driver, Stands-chain}
+use Rattle.splitters.proofs.tapped.Table.{tap_count-some}
+use Rattle.splitters.proofs.valid.Multiplicity.{once, times, times-append, after, nat_lt-next}
+use Rattle.splitters.proofs.valid.Frontier.{IsLaid-waits, IsLaid-cell}
+use Rattle.splitters.proofs.valid.Pins.{Marks, held, AreStaged, MarksAgree-all}
+use Rattle.splitters.proofs.tapped.Takers.{DrivesNone}
+use Rattle.splitters.proofs.valid.Chains.{Stands, Stands-agree, AreStaged-step, GoesOn, by_driver, and_driver, Stands-chain}
 
 -- the wires of these pins, from a number on
 abbrev pub pin_wires : List ℕ → ℕ → List Driver → List ℕ
@@ -161,9 +161,9 @@ Stands-gate chained first start used rest gate pin row layout some here all each
     (subst (λ (ds : List Driver). Stands n first start (tap_stage chained) chained.needs next rest (by_driver (and_driver (before_gate gate) (Gate gate))) (λ w. 0) (with_chain n user layout.next (taps_at chained.needs ds (Gate gate)) (with_cell row.cell user wires layout))) (sym all)
     (subst (λ p. Stands n first start (tap_stage chained) chained.needs p rest (by_driver (and_driver (before_gate gate) (Gate gate))) (λ w. 0) (with_chain n user layout.next (taps_at chained.needs ((used ++ mine) ++ rest) (Gate gate)) (with_cell row.cell user wires layout))) (sym at) done)) in
     Stands-agree n first start (tap_stage chained) chained.needs next rest (by_driver (and_driver (before_gate gate) (Gate gate))) (by_driver (before_gate (gate + 1))) (λ w. 0) (with_gate chained gate pin row layout)
-    (Agree-all (by_driver (and_driver (before_gate gate) (Gate gate))) (by_driver (before_gate (gate + 1))) chained.needs next rest (λ driver need. before_gate-next gate driver)) whole
+    (MarksAgree-all (by_driver (and_driver (before_gate gate) (Gate gate))) (by_driver (before_gate (gate + 1))) chained.needs next rest (λ driver need. before_gate-next gate driver)) whole
 
--- the rows that are left stand behind so many gates
+-- the rows that are left, of which the first is this gate
 abbrev pub AreGatesFrom : ℕ → ℕ → List GateRow → Type 0
 AreGatesFrom inputs gate [] = ⊤
 AreGatesFrom inputs gate (row ∷ rows) = IsGate inputs gate row × AreGatesFrom inputs (gate + 1) rows

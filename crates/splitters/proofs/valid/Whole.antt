@@ -23,12 +23,12 @@ use Rattle.dro_chains.specs.declared.chain.Chained.{Chained}
 use Rattle.splitters.specs.Elements.{wire_count, with_inputs, gate_pins, outlets, inputs_of, empty_layout, layout_of, elements_of}
 use Rattle.splitters.specs.Taps.{with_pin, tap_count}
 use Rattle.splitters.specs.Laws.{tap_stage, PinsInTime, KeepsTime, LayoutIsValid}
-use Rattle.splitters.proofs.WiredCounts.{times, times-append, run, run-split, after, AreFound, once-same, distinct-once, among-times, times-among}
-use Rattle.splitters.proofs.WiredPins.{Marks, held, AreStaged, Agree}
-use Rattle.splitters.proofs.Takers.{DrivesNone}
-use Rattle.splitters.proofs.WiredChains.{Stands, Stands-agree, by_driver, tap_count-late}
-use Rattle.splitters.proofs.WiredGates.{pin_wires, AreReached, held-reached, before_gate, before_gate-there, AreGatesFrom, tap_count-gate, Stands-gates, DrivesNone-there, DrivesNone-append}
-use Rattle.splitters.proofs.WiredInputs.{times-run_out, times-run_once, input_wires-run, length-input_wires, found-input, found-no_input, before_input, Stands-inputs}
+use Rattle.splitters.proofs.valid.Multiplicity.{times, times-append, run, run-split, after, AreFound, once-same, distinct-once, among-times, times-among}
+use Rattle.splitters.proofs.valid.Pins.{Marks, held, AreStaged, MarksAgree}
+use Rattle.splitters.proofs.tapped.Takers.{DrivesNone}
+use Rattle.splitters.proofs.valid.Chains.{Stands, Stands-agree, by_driver, tap_count-late}
+use Rattle.splitters.proofs.valid.Gates.{pin_wires, AreReached, held-reached, before_gate, before_gate-there, AreGatesFrom, tap_count-gate, Stands-gates, DrivesNone-there, DrivesNone-append}
+use Rattle.splitters.proofs.valid.Inputs.{times-run_out, times-run_once, input_wires-run, length-input_wires, found-input, found-no_input, before_input, Stands-inputs}
 
 -- ---- outputs
 
@@ -76,10 +76,10 @@ pub gates-all : (inputs : ℕ) (rows : List GateRow) → AreGates inputs rows �
 gates-all inputs rows gates = gates-from inputs 0 rows (λ place d low. let z : place ≡ 0 + place = omega arith in subst (λ g. IsGate inputs g (get_or rows place d)) z (gates place d low))
 
 -- behind the last input the first gate's turn comes
-pub Agree-first : (inputs gates : ℕ) (needs : List ℕ) (pin : ℕ) (drivers : List Driver) → All (IsThere inputs gates) drivers → Agree (by_driver (before_input (0 + inputs))) (by_driver (before_gate 0)) needs pin drivers
-Agree-first inputs gates needs pin [] there = tt
-Agree-first inputs gates needs pin (driver ∷ drivers) there =
-    (by driver (All-head (IsThere inputs gates) driver drivers there), Agree-first inputs gates needs (pin + 1) drivers (All-tail (IsThere inputs gates) driver drivers there))
+pub MarksAgree-first : (inputs gates : ℕ) (needs : List ℕ) (pin : ℕ) (drivers : List Driver) → All (IsThere inputs gates) drivers → MarksAgree (by_driver (before_input (0 + inputs))) (by_driver (before_gate 0)) needs pin drivers
+MarksAgree-first inputs gates needs pin [] there = tt
+MarksAgree-first inputs gates needs pin (driver ∷ drivers) there =
+    (by driver (All-head (IsThere inputs gates) driver drivers there), MarksAgree-first inputs gates needs (pin + 1) drivers (All-tail (IsThere inputs gates) driver drivers there))
   where
     by : (driver : Driver) → IsThere inputs gates driver → before_gate 0 driver ≡ before_input (0 + inputs) driver
     by (Input i) there = sym (lt-ltb i (0 + inputs) (omega arith))
@@ -177,7 +177,7 @@ Stands-layout chained timed =
     let laid_inputs = Stands-inputs chained first start 0 0 inputs (empty_layout chained) timed.some_phase (inputs-found wires (flat_map option_to_list wires) (λ w h. h)) (Stands-empty chained) in
     let layout = with_inputs chained 0 wires (empty_layout chained) in
     let begun : Stands n first start stage chained.needs 0 all (by_driver (before_gate 0)) (λ w. 0) layout =
-    Stands-agree n first start stage chained.needs 0 all (by_driver (before_input (0 + inputs))) (by_driver (before_gate 0)) (λ w. 0) layout (Agree-first inputs (length rows) chained.needs 0 all (pin_drivers-there chained.gates timed.formed)) laid_inputs in
+    Stands-agree n first start stage chained.needs 0 all (by_driver (before_input (0 + inputs))) (by_driver (before_gate 0)) (λ w. 0) layout (MarksAgree-first inputs (length rows) chained.needs 0 all (pin_drivers-there chained.gates timed.formed)) laid_inputs in
     let done = Stands-gates chained first start [] outs 0 0 rows layout timed.some_phase refl refl gates (λ later low. tt)
     (λ k low high. tap_count-gate chained k (timed.used k (omega arith))) timed.gates begun in
     let p : 0 + gate_pins rows ≡ gate_pins rows = omega arith in

@@ -7,7 +7,7 @@ use Rattle.gate_net.specs.declared.row.GateRow.{GateRow}
 use Rattle.dro_chains.specs.declared.chain.Chained.{Chained}
 use Rattle.splitters.specs.Elements.{Layout, with_tap, with_dro, with_chain, with_inputs, with_cell, with_gate, with_gates, inputs_of, empty_layout, layout_of}
 use Rattle.splitters.specs.Taps.{taps_of}
-use Rattle.splitters.proofs.LayoutLemmas.{with_chain-goes_on}
+use Rattle.splitters.proofs.wires.Steps.{with_chain-goes_on}
 
 chain-grows : (n stage wire : ℕ) (taps : List (List ℕ)) (layout : Layout) → layout.next ≤ (with_chain n stage wire taps layout).next
 chain-grows n stage wire [] layout = omega arith

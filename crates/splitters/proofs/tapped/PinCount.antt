@@ -6,7 +6,7 @@ use Rattle.gate_net.specs.declared.row.Driver.TheVariants.{Input, Gate}
 use Rattle.gate_net.specs.Rows.{same_driver}
 use Rattle.splitters.specs.Taps.{with_pin, takers, taps_from}
 
--- the sum of a count over so many numbers from one on
+-- the sum of a count over numbers from one on, `more` of them
 abbrev sum_from : (ℕ → ℕ) → ℕ → ℕ → ℕ
 sum_from count from zero = 0
 sum_from count from (suc more) = count from + sum_from count (from + 1) more
@@ -68,7 +68,7 @@ tap_pins-from needs drivers driver need (suc count) = omega (arith, tap_pins-fro
 pub tap_pins-few : (needs : List ℕ) (drivers : List Driver) (driver : Driver) (need count : ℕ) → tap_pins (taps_from needs drivers driver need count) ≤ pins_of driver drivers
 tap_pins-few needs drivers driver need count = omega (arith, tap_pins-from needs drivers driver need count, takers-count needs driver 0 need count drivers)
 
--- the pins of so many inputs from one on, and of gates
+-- the pins of inputs from one on, a number of them, and of gates
 abbrev pub input_pins : List Driver → ℕ → ℕ → ℕ
 input_pins drivers = sum_from (λ i. pins_of (Input i) drivers)
 

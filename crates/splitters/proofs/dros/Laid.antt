@@ -22,9 +22,9 @@ use Rattle.splitters.specs.Spread.{first_half, tree_lines, spread_lines}
 use Rattle.splitters.specs.Elements.{Layout, tap_wires, with_tap, with_dro, with_chain, input_wires, with_inputs, with_cell, with_gate, with_gates, inputs_of, empty_layout}
 use Rattle.splitters.specs.Taps.{taps_of, input_dros, gate_dros}
 use Rattle.splitters.specs.Laws.{DrosAreTheChains}
-use Rattle.splitters.proofs.TapLemmas.{tap_count-some, length-taps_at}
-use Rattle.splitters.proofs.WiredGates.{AreGatesFrom}
-use Rattle.splitters.proofs.WiredWhole.{gates-all}
+use Rattle.splitters.proofs.tapped.Table.{tap_count-some, length-taps_at}
+use Rattle.splitters.proofs.valid.Gates.{AreGatesFrom}
+use Rattle.splitters.proofs.valid.Whole.{gates-all}
 
 dros-tree : (depth wire next targets : ℕ) → dros (tree_lines depth wire next targets) ≡ 0
 dros-tree zero wire next targets = refl

@@ -16,11 +16,11 @@ use Rattle.dro_chains.specs.declared.chain.Chained.{Chained}
 use Rattle.splitters.specs.Elements.{Layout, with_chain, input_wires, wire_count, with_inputs}
 use Rattle.splitters.specs.Taps.{taps_of}
 use Rattle.splitters.specs.Laws.{tap_stage}
-use Rattle.splitters.proofs.WiredCounts.{once, times, run, AreFound, once-same, once-other, nat_lt-next}
-use Rattle.splitters.proofs.WiredPins.{Agree, Agree-all}
-use Rattle.splitters.proofs.WiredGates.{tap_stage-same}
-use Rattle.splitters.proofs.WiredChains.{Stands, Stands-agree, by_driver, and_driver, Stands-chain}
-use Rattle.splitters.proofs.TapLemmas.{tap_count-some}
+use Rattle.splitters.proofs.valid.Multiplicity.{once, times, run, AreFound, once-same, once-other, nat_lt-next}
+use Rattle.splitters.proofs.valid.Pins.{MarksAgree, MarksAgree-all}
+use Rattle.splitters.proofs.valid.Gates.{tap_stage-same}
+use Rattle.splitters.proofs.valid.Chains.{Stands, Stands-agree, by_driver, and_driver, Stands-chain}
+use Rattle.splitters.proofs.tapped.Table.{tap_count-some}
 
 -- how often a wire stands in a run
 pub times-run_out : (wire from count : ℕ) → from + count ≤ wire → times wire (run from count) ≡ 0
@@ -95,11 +95,11 @@ pub before_input-late : (input : ℕ) (other : Driver) → same_driver (Input in
 before_input-late input other same = ap (before_input input) (sym ((same_driver-decides (Input input) other).0 same)) ∙ le-ltb input input (omega arith)
 
 -- an unused input changes nothing
-pub Agree-unused : (needs : List ℕ) (reached : Driver → Bool) (driver : Driver) (pin : ℕ) (drivers : List Driver) → list_any (same_driver driver) drivers ≡ false → Agree (by_driver reached) (by_driver (and_driver reached driver)) needs pin drivers
-Agree-unused needs reached driver pin [] none = tt
-Agree-unused needs reached driver pin (other ∷ drivers) none =
+pub MarksAgree-unused : (needs : List ℕ) (reached : Driver → Bool) (driver : Driver) (pin : ℕ) (drivers : List Driver) → list_any (same_driver driver) drivers ≡ false → MarksAgree (by_driver reached) (by_driver (and_driver reached driver)) needs pin drivers
+MarksAgree-unused needs reached driver pin [] none = tt
+MarksAgree-unused needs reached driver pin (other ∷ drivers) none =
     let split = by (same_driver driver other) (list_any (same_driver driver) drivers) none in
-    (ap (λ b. reached other || b) split.0 ∙ or_none (reached other), Agree-unused needs reached driver (pin + 1) drivers split.1)
+    (ap (λ b. reached other || b) split.0 ∙ or_none (reached other), MarksAgree-unused needs reached driver (pin + 1) drivers split.1)
   where
     by : (same any : Bool) → (same || any) ≡ false → (same ≡ false) × (any ≡ false)
     by true any e = absurd (true≢false e)
@@ -141,11 +141,11 @@ Stands-inputs chained first start input next (suc more) layout some are h =
         rest (next + 1) (with_chain chained.n 0 next (taps_of chained (Input input)) layout) are.1
         (Stands-agree chained.n first start (tap_stage chained) chained.needs 0 (pin_drivers chained.gates) (by_driver (and_driver (before_input input) (Input input))) (by_driver (before_input (input + 1))) waits
         (with_chain chained.n 0 next (taps_of chained (Input input)) layout)
-        (Agree-all (by_driver (and_driver (before_input input) (Input input))) (by_driver (before_input (input + 1))) chained.needs 0 (pin_drivers chained.gates) (λ driver need. before_input-next input driver)) done)
+        (MarksAgree-all (by_driver (and_driver (before_input input) (Input input))) (by_driver (before_input (input + 1))) chained.needs 0 (pin_drivers chained.gates) (λ driver need. before_input-next input driver)) done)
     by false unused are h rest =
         let waits : ℕ → ℕ = λ w. times w (flat_map option_to_list (input_wires chained (input + 1) (next + 0) more)) in
         rest (next + 0) layout are
         (Stands-agree chained.n first start (tap_stage chained) chained.needs 0 (pin_drivers chained.gates) (by_driver (and_driver (before_input input) (Input input))) (by_driver (before_input (input + 1))) waits layout
-        (Agree-all (by_driver (and_driver (before_input input) (Input input))) (by_driver (before_input (input + 1))) chained.needs 0 (pin_drivers chained.gates) (λ driver need. before_input-next input driver))
+        (MarksAgree-all (by_driver (and_driver (before_input input) (Input input))) (by_driver (before_input (input + 1))) chained.needs 0 (pin_drivers chained.gates) (λ driver need. before_input-next input driver))
         (Stands-agree chained.n first start (tap_stage chained) chained.needs 0 (pin_drivers chained.gates) (by_driver (before_input input)) (by_driver (and_driver (before_input input) (Input input))) waits layout
-        (Agree-unused chained.needs (before_input input) (Input input) 0 (pin_drivers chained.gates) unused) h))
+        (MarksAgree-unused chained.needs (before_input input) (Input input) 0 (pin_drivers chained.gates) unused) h))

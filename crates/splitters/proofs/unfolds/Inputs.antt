@@ -14,12 +14,12 @@ use Rattle.pulse_net.proofs.CallerLemmas.{with_wire-keeps, with_wire-found}
 use Rattle.dro_chains.specs.declared.chain.Chained.{Chained}
 use Rattle.splitters.specs.Elements.{Layout, with_chain, input_wires, wire_count, with_inputs}
 use Rattle.splitters.specs.Taps.{taps_of}
-use Rattle.splitters.proofs.WiredPins.{Agree-all}
-use Rattle.splitters.proofs.WiredChains.{by_driver, and_driver}
-use Rattle.splitters.proofs.TapLemmas.{tap_count-some}
-use Rattle.splitters.proofs.WiredInputs.{before_input, before_input-next, before_input-late, Agree-unused}
-use Rattle.splitters.proofs.UnfoldsWires.{IsFresh, with_wire-fresh, AreKept, AreKept-same, AreKept-then}
-use Rattle.splitters.proofs.UnfoldsChains.{so_far, Drives, Drives-agree, Step, Step-then, Drives-chain}
+use Rattle.splitters.proofs.valid.Pins.{MarksAgree-all}
+use Rattle.splitters.proofs.valid.Chains.{by_driver, and_driver}
+use Rattle.splitters.proofs.tapped.Table.{tap_count-some}
+use Rattle.splitters.proofs.valid.Inputs.{before_input, before_input-next, before_input-late, MarksAgree-unused}
+use Rattle.splitters.proofs.unfolds.Wires.{IsFresh, with_wire-fresh, AreKept, AreKept-same, AreKept-then}
+use Rattle.splitters.proofs.unfolds.Chains.{so_far, Drives, Drives-agree, Step, Step-then, Drives-chain}
 
 -- the wires of inputs from a place on have these inputs as drivers
 abbrev AreInputs : Wires Driver → ℕ → List (Option ℕ) → Type 0
@@ -91,13 +91,13 @@ Drives-inputs chained start input next (suc more) layout made kept h =
         let done = Drives-chain start chained.needs [] (pin_drivers chained.gates) (before_input input) (Input input) chained.n 0 next layout tt
         (before_input-late input) ((tap_count-some chained.needs (Input input) 0 (pin_drivers chained.gates)).0 used) h (kept.wires next (Input input) made.0) in
         let agreed = Drives-agree start chained.needs 0 (pin_drivers chained.gates) (by_driver (and_driver (before_input input) (Input input))) (by_driver (before_input (input + 1))) lay
-        (Agree-all (by_driver (and_driver (before_input input) (Input input))) (by_driver (before_input (input + 1))) chained.needs 0 (pin_drivers chained.gates) (λ driver need. before_input-next input driver)) done.drives in
+        (MarksAgree-all (by_driver (and_driver (before_input input) (Input input))) (by_driver (before_input (input + 1))) chained.needs 0 (pin_drivers chained.gates) (λ driver need. before_input-next input driver)) done.drives in
         let last = with_inputs chained (input + 1) (input_wires chained (input + 1) (next + 1) more) lay in
         Step-then start chained.needs 0 (pin_drivers chained.gates) (by_driver (before_input ((input + 1) + more))) layout lay last done.kept
         (rest (next + 1) lay made.1 (AreKept-then start (so_far start layout) (so_far start lay) kept done.kept) agreed)
     by false unused made rest =
         rest (next + 0) layout made kept
         (Drives-agree start chained.needs 0 (pin_drivers chained.gates) (by_driver (and_driver (before_input input) (Input input))) (by_driver (before_input (input + 1))) layout
-        (Agree-all (by_driver (and_driver (before_input input) (Input input))) (by_driver (before_input (input + 1))) chained.needs 0 (pin_drivers chained.gates) (λ driver need. before_input-next input driver))
+        (MarksAgree-all (by_driver (and_driver (before_input input) (Input input))) (by_driver (before_input (input + 1))) chained.needs 0 (pin_drivers chained.gates) (λ driver need. before_input-next input driver))
         (Drives-agree start chained.needs 0 (pin_drivers chained.gates) (by_driver (before_input input)) (by_driver (and_driver (before_input input) (Input input))) layout
-        (Agree-unused chained.needs (before_input input) (Input input) 0 (pin_drivers chained.gates) unused) h))
+        (MarksAgree-unused chained.needs (before_input input) (Input input) 0 (pin_drivers chained.gates) unused) h))

@@ -19,16 +19,16 @@ use Rattle.dro_chains.specs.Chains.{chained_of, stages_of}
 use Rattle.dro_chains.proofs.CallerLemmas.{length-stages, phases-back, epochs-back}
 use Rattle.splitters.specs.Elements.{with_inputs, gate_pins, outlets, wire_count, inputs_of, empty_layout, layout_of, elements_of}
 use Rattle.splitters.specs.Laws.{ChainsUnfold}
-use Rattle.splitters.proofs.WiredPins.{AreStaged}
-use Rattle.splitters.proofs.WiredChains.{by_driver}
-use Rattle.splitters.proofs.WiredGates.{AreReached, before_gate, AreGatesFrom, tap_count-gate}
-use Rattle.splitters.proofs.WiredInputs.{length-input_wires, before_input}
-use Rattle.splitters.proofs.WiredWhole.{gates-all, ends-reached, Agree-first, AreStaged-none, before_input-none}
-use Rattle.splitters.proofs.WiredCount.{dros_are_the_count}
-use Rattle.splitters.proofs.UnfoldsWires.{AreKept-same}
-use Rattle.splitters.proofs.UnfoldsChains.{its_driver, Drives, Drives-agree}
-use Rattle.splitters.proofs.UnfoldsGates.{Adds, stages_from, Adds-gates}
-use Rattle.splitters.proofs.UnfoldsInputs.{AreMade, AreMade-inputs, Drives-inputs}
+use Rattle.splitters.proofs.valid.Pins.{AreStaged}
+use Rattle.splitters.proofs.valid.Chains.{by_driver}
+use Rattle.splitters.proofs.valid.Gates.{AreReached, before_gate, AreGatesFrom, tap_count-gate}
+use Rattle.splitters.proofs.valid.Inputs.{length-input_wires, before_input}
+use Rattle.splitters.proofs.valid.Whole.{gates-all, ends-reached, MarksAgree-first, AreStaged-none, before_input-none}
+use Rattle.splitters.proofs.dros.Count.{dros_are_the_count}
+use Rattle.splitters.proofs.unfolds.Wires.{AreKept-same}
+use Rattle.splitters.proofs.unfolds.Chains.{its_driver, Drives, Drives-agree}
+use Rattle.splitters.proofs.unfolds.Gates.{Adds, stages_from, Adds-gates}
+use Rattle.splitters.proofs.unfolds.Inputs.{AreMade, AreMade-inputs, Drives-inputs}
 
 -- what is known behind the inputs
 abbrev after_inputs : Chained → Unfolding
@@ -67,7 +67,7 @@ Adds-layout chained formed used =
     let laid = Drives-inputs chained start 0 0 inputs (empty_layout chained) first.made (AreKept-same start) (Drives-empty chained) in
     let layout = with_inputs chained 0 (inputs_of chained) (empty_layout chained) in
     let begun : Adds chained start 0 all 0 [] [] layout = record {
-      drives = Drives-agree start chained.needs 0 all (by_driver (before_input (0 + inputs))) (by_driver (before_gate 0)) layout (Agree-first inputs (length rows) chained.needs 0 all (pin_drivers-there chained.gates formed)) laid.drives;
+      drives = Drives-agree start chained.needs 0 all (by_driver (before_input (0 + inputs))) (by_driver (before_gate 0)) layout (MarksAgree-first inputs (length rows) chained.needs 0 all (pin_drivers-there chained.gates formed)) laid.drives;
       gates = laid.kept.gates ∙ first.kept.gates;
       stages = laid.kept.stages ∙ first.kept.stages;
     } in

@@ -16,10 +16,10 @@ use Rattle.splitters.specs.Spread.{spread_lines, spread_wires}
 use Rattle.splitters.specs.Elements.{Layout, take_wires, with_cell, with_last, with_tap, with_dro, with_chain}
 use Rattle.splitters.specs.Taps.{takers, tap_count, taps_from, taps_at}
 use Rattle.splitters.proofs.Trees.{length-spread_wires}
-use Rattle.splitters.proofs.WiredPins.{Marks, AreStaged, Agree, Agree-all, AreStaged-agree, and_tap, IsNew, AreStaged-held, length-taken}
-use Rattle.splitters.proofs.Takers.{DrivesNone, takers-last}
-use Rattle.splitters.proofs.WiredChains.{takers-behind, with_taps, with_taps-new, with_taps-plus, with_taps-none, by_driver, and_driver, tap_count-late, Agree-chain}
-use Rattle.splitters.proofs.UnfoldsWires.{Keeps, IsFresh, with_wire-fresh, AreKept, AreKept-then, IsHanded, IsHanded-tree}
+use Rattle.splitters.proofs.valid.Pins.{Marks, AreStaged, MarksAgree, MarksAgree-all, AreStaged-agree, and_tap, IsNew, AreStaged-held, length-taken}
+use Rattle.splitters.proofs.tapped.Takers.{DrivesNone, takers-last}
+use Rattle.splitters.proofs.valid.Chains.{takers-behind, with_taps, with_taps-new, with_taps-plus, with_taps-none, by_driver, and_driver, tap_count-late, MarksAgree-chain}
+use Rattle.splitters.proofs.unfolds.Wires.{Keeps, IsFresh, with_wire-fresh, AreKept, AreKept-then, IsHanded, IsHanded-tree}
 
 -- what is known behind the elements so far
 abbrev pub so_far : Unfolding → Layout → Unfolding
@@ -36,7 +36,7 @@ pub record Drives (start : Unfolding) (needs : List ℕ) (pin : ℕ) (rest : Lis
   pub room : pin + length rest ≤ length layout.taken
 
 pub Drives-agree : (start : Unfolding) (needs : List ℕ) (pin : ℕ) (rest : List Driver) (marks others : Marks) (layout : Layout) →
-    Agree marks others needs pin rest → Drives start needs pin rest marks layout → Drives start needs pin rest others layout
+    MarksAgree marks others needs pin rest → Drives start needs pin rest marks layout → Drives start needs pin rest others layout
 Drives-agree start needs pin rest marks others layout same h = record {
   fresh = h.fresh;
   driven = AreStaged-agree (so_far start layout).wires its_driver marks others needs layout.taken pin rest same h.driven;
@@ -66,7 +66,7 @@ same-its driver need other its = by (same_driver driver other) (λ e. sym ((same
     by true equal h = equal refl
     by false equal h = absurd (true≢false (sym h))
 
--- a spread of a wire over so many targets
+-- a wire is spread over `targets` of them
 spread-handed : (start : Unfolding) (elements : List Element) (next wire targets : ℕ) (driver : Driver) → 1 ≤ targets →
     IsFresh next (unfold_elements elements start).wires → found (unfold_elements elements start).wires wire ≡ Some driver →
     IsHanded (unfold_elements elements start) (unfold_elements (elements ++ spread_lines wire next targets) start) (next + 2 * (targets - 1)) driver (spread_wires wire next targets)
@@ -151,18 +151,18 @@ pub Step-then : (start : Unfolding) (needs : List ℕ) (pin : ℕ) (rest : List 
 Step-then start needs pin rest marks layout later last before h = record { drives = h.drives; kept = AreKept-then (so_far start layout) (so_far start later) (so_far start last) before h.kept }
 
 pub Step-agree : (start : Unfolding) (needs : List ℕ) (pin : ℕ) (rest : List Driver) (marks others : Marks) (layout later : Layout) →
-    Agree marks others needs pin rest → Step start needs pin rest marks layout later → Step start needs pin rest others layout later
+    MarksAgree marks others needs pin rest → Step start needs pin rest marks layout later → Step start needs pin rest others layout later
 Step-agree start needs pin rest marks others layout later same h = record { drives = Drives-agree start needs pin rest marks others later same h.drives; kept = h.kept }
 
 -- The chain of a driver, whose taps behind `need` are still to be laid out.
-Drives-taps : (start : Unfolding) (needs : List ℕ) (used rest : List Driver) (reached : Driver → Bool) (driver : Driver) (phases need more wire at : ℕ) (layout : Layout) →
+Drives-taps : (start : Unfolding) (needs : List ℕ) (used rest : List Driver) (reached : Driver → Bool) (driver : Driver) (n need more wire at : ℕ) (layout : Layout) →
     DrivesNone driver used →
     ((other : Driver) → same_driver driver other ≡ true → reached other ≡ false) →
     tap_count needs driver 0 (used ++ rest) ≡ need + suc more →
     Drives start needs (length used) rest (with_taps reached driver need) layout →
     found (so_far start layout).wires wire ≡ Some driver →
-    Step start needs (length used) rest (with_taps reached driver (need + suc more)) layout (with_chain phases at wire (taps_from needs (used ++ rest) driver need (suc more)) layout)
-Drives-taps start needs used rest reached driver phases need zero wire at layout none late counted h source =
+    Step start needs (length used) rest (with_taps reached driver (need + suc more)) layout (with_chain n at wire (taps_from needs (used ++ rest) driver need (suc more)) layout)
+Drives-taps start needs used rest reached driver n need zero wire at layout none late counted h source =
     let pin = length used in
     let behind = takers-behind needs driver need used rest none in
     let next : need + 1 ≡ suc need = omega arith in
@@ -171,44 +171,44 @@ Drives-taps start needs used rest reached driver phases need zero wire at layout
     (subst (λ (ps : List ℕ). 1 ≤ length ps) behind last) in
     subst (λ (ps : List ℕ). Step start needs pin rest (with_taps reached driver (need + 1)) layout (with_last wire ps layout)) (sym behind)
     (Step-agree start needs pin rest (and_tap (with_taps reached driver need) driver need) (with_taps reached driver (need + 1)) layout (with_last wire (takers needs driver need pin rest) layout)
-    (Agree-all (and_tap (with_taps reached driver need) driver need) (with_taps reached driver (need + 1)) needs pin rest (with_taps-plus reached driver need)) done)
-Drives-taps start needs used rest reached driver phases need (suc more) wire at layout none late counted h source =
+    (MarksAgree-all (and_tap (with_taps reached driver need) driver need) (with_taps reached driver (need + 1)) needs pin rest (with_taps-plus reached driver need)) done)
+Drives-taps start needs used rest reached driver n need (suc more) wire at layout none late counted h source =
     let pin = length used in
     let pins = takers needs driver need 0 (used ++ rest) in
     let behind = takers-behind needs driver need used rest none in
     let marks = and_tap (with_taps reached driver need) driver need in
-    let done = Drives-dro start needs pin rest (with_taps reached driver need) layout driver need (at + phases) wire h source (with_taps-new reached driver need late) in
-    let moved : GoesOn start needs pin rest marks layout (with_dro (at + phases) wire pins layout) ((with_tap wire pins layout).next) driver =
-    subst (λ (ps : List ℕ). GoesOn start needs pin rest marks layout (with_dro (at + phases) wire ps layout) ((with_tap wire ps layout).next) driver) (sym behind) done in
-    let later = with_dro (at + phases) wire pins layout in
+    let done = Drives-dro start needs pin rest (with_taps reached driver need) layout driver need (at + n) wire h source (with_taps-new reached driver need late) in
+    let moved : GoesOn start needs pin rest marks layout (with_dro (at + n) wire pins layout) ((with_tap wire pins layout).next) driver =
+    subst (λ (ps : List ℕ). GoesOn start needs pin rest marks layout (with_dro (at + n) wire ps layout) ((with_tap wire ps layout).next) driver) (sym behind) done in
+    let later = with_dro (at + n) wire pins layout in
     let agreed = Drives-agree start needs pin rest marks (with_taps reached driver (need + 1)) later
-    (Agree-all marks (with_taps reached driver (need + 1)) needs pin rest (with_taps-plus reached driver need)) moved.step.drives in
+    (MarksAgree-all marks (with_taps reached driver (need + 1)) needs pin rest (with_taps-plus reached driver need)) moved.step.drives in
     let counts : need + suc (suc more) ≡ (need + 1) + suc more = omega arith in
-    let last = with_chain phases at wire (taps_from needs (used ++ rest) driver need (suc (suc more))) layout in
-    subst (λ n. Step start needs pin rest (with_taps reached driver n) layout last) (sym counts)
+    let last = with_chain n at wire (taps_from needs (used ++ rest) driver need (suc (suc more))) layout in
+    subst (λ k. Step start needs pin rest (with_taps reached driver k) layout last) (sym counts)
     (Step-then start needs pin rest (with_taps reached driver ((need + 1) + suc more)) layout later last moved.step.kept
-    (Drives-taps start needs used rest reached driver phases (need + 1) more ((with_tap wire pins layout).next) (at + phases) later none late (counted ∙ counts) agreed moved.source))
+    (Drives-taps start needs used rest reached driver n (need + 1) more ((with_tap wire pins layout).next) (at + n) later none late (counted ∙ counts) agreed moved.source))
 
 -- The whole chain of a driver: behind it each pin of the driver takes a wire of it.
-pub Drives-chain : (start : Unfolding) (needs : List ℕ) (used rest : List Driver) (reached : Driver → Bool) (driver : Driver) (phases stage wire : ℕ) (layout : Layout) →
+pub Drives-chain : (start : Unfolding) (needs : List ℕ) (used rest : List Driver) (reached : Driver → Bool) (driver : Driver) (n stage wire : ℕ) (layout : Layout) →
     DrivesNone driver used →
     ((other : Driver) → same_driver driver other ≡ true → reached other ≡ false) →
     1 ≤ tap_count needs driver 0 (used ++ rest) →
     Drives start needs (length used) rest (by_driver reached) layout →
     found (so_far start layout).wires wire ≡ Some driver →
-    Step start needs (length used) rest (by_driver (and_driver reached driver)) layout (with_chain phases stage wire (taps_at needs (used ++ rest) driver) layout)
-Drives-chain start needs used rest reached driver phases stage wire layout none late taps h source = by (tap_count needs driver 0 (used ++ rest)) refl
+    Step start needs (length used) rest (by_driver (and_driver reached driver)) layout (with_chain n stage wire (taps_at needs (used ++ rest) driver) layout)
+Drives-chain start needs used rest reached driver n stage wire layout none late taps h source = by (tap_count needs driver 0 (used ++ rest)) refl
   where
     by : (count : ℕ) → tap_count needs driver 0 (used ++ rest) ≡ count →
-        Step start needs (length used) rest (by_driver (and_driver reached driver)) layout (with_chain phases stage wire (taps_from needs (used ++ rest) driver 0 count) layout)
+        Step start needs (length used) rest (by_driver (and_driver reached driver)) layout (with_chain n stage wire (taps_from needs (used ++ rest) driver 0 count) layout)
     by zero e = absurd (omega arith)
     by (suc more) e =
         let same : 0 + suc more ≡ suc more = omega arith in
         let begun = Drives-agree start needs (length used) rest (by_driver reached) (with_taps reached driver 0) layout
-        (Agree-all (by_driver reached) (with_taps reached driver 0) needs (length used) rest (with_taps-none reached driver)) h in
-        let done = Drives-taps start needs used rest reached driver phases 0 more wire stage layout none late (e ∙ sym same) begun source in
+        (MarksAgree-all (by_driver reached) (with_taps reached driver 0) needs (length used) rest (with_taps-none reached driver)) h in
+        let done = Drives-taps start needs used rest reached driver n 0 more wire stage layout none late (e ∙ sym same) begun source in
         let few : tap_count needs driver (length used) rest ≤ 0 + suc more =
         let f = tap_count-late needs driver 0 used rest none in let y : 0 + length used ≡ length used = omega arith in let g = ap (λ p. tap_count needs driver p rest) y in omega (arith, f, g, e) in
         Step-agree start needs (length used) rest (with_taps reached driver (0 + suc more)) (by_driver (and_driver reached driver)) layout
-        (with_chain phases stage wire (taps_from needs (used ++ rest) driver 0 (suc more)) layout)
-        (Agree-chain needs reached driver (0 + suc more) (length used) rest few) done
+        (with_chain n stage wire (taps_from needs (used ++ rest) driver 0 (suc more)) layout)
+        (MarksAgree-chain needs reached driver (0 + suc more) (length used) rest few) done

@@ -10,7 +10,7 @@ use Rattle.pulse_net.specs.Wires.{Wires, found, cell_stage}
 use Rattle.pulse_net.proofs.CallerLemmas.{after_elements-found}
 use Rattle.splitters.specs.Elements.{take_wires}
 use Rattle.splitters.specs.Taps.{with_pin, takers}
-use Rattle.splitters.proofs.WiredCounts.{once, times, after, AreFound}
+use Rattle.splitters.proofs.valid.Multiplicity.{once, times, after, AreFound}
 
 -- which taps are laid out: of a driver, by the need of their pins
 abbrev pub Marks : Type 0
@@ -29,22 +29,22 @@ AreStaged made stage marks needs taken pin (driver ∷ drivers) =
     × AreStaged made stage marks needs taken (pin + 1) drivers
 
 -- two marks agree on these pins
-abbrev pub Agree : Marks → Marks → List ℕ → ℕ → List Driver → Type 0
-Agree marks others needs pin [] = ⊤
-Agree marks others needs pin (driver ∷ drivers) = (others driver (get_or needs pin 0) ≡ marks driver (get_or needs pin 0)) × Agree marks others needs (pin + 1) drivers
+abbrev pub MarksAgree : Marks → Marks → List ℕ → ℕ → List Driver → Type 0
+MarksAgree marks others needs pin [] = ⊤
+MarksAgree marks others needs pin (driver ∷ drivers) = (others driver (get_or needs pin 0) ≡ marks driver (get_or needs pin 0)) × MarksAgree marks others needs (pin + 1) drivers
 
-pub Agree-all : (marks others : Marks) (needs : List ℕ) (pin : ℕ) (drivers : List Driver) → ((driver : Driver) (need : ℕ) → others driver need ≡ marks driver need) → Agree marks others needs pin drivers
-Agree-all marks others needs pin [] same = tt
-Agree-all marks others needs pin (driver ∷ drivers) same = (same driver (get_or needs pin 0), Agree-all marks others needs (pin + 1) drivers same)
+pub MarksAgree-all : (marks others : Marks) (needs : List ℕ) (pin : ℕ) (drivers : List Driver) → ((driver : Driver) (need : ℕ) → others driver need ≡ marks driver need) → MarksAgree marks others needs pin drivers
+MarksAgree-all marks others needs pin [] same = tt
+MarksAgree-all marks others needs pin (driver ∷ drivers) same = (same driver (get_or needs pin 0), MarksAgree-all marks others needs (pin + 1) drivers same)
 
-pub held-agree : (marks others : Marks) (needs taken : List ℕ) (pin : ℕ) (drivers : List Driver) → Agree marks others needs pin drivers → held others needs taken pin drivers ≡ held marks needs taken pin drivers
+pub held-agree : (marks others : Marks) (needs taken : List ℕ) (pin : ℕ) (drivers : List Driver) → MarksAgree marks others needs pin drivers → held others needs taken pin drivers ≡ held marks needs taken pin drivers
 held-agree marks others needs taken pin [] same = refl
 held-agree marks others needs taken pin (driver ∷ drivers) same =
     let rest = held-agree marks others needs taken (pin + 1) drivers same.1 in
     λ i. with_pin (same.0 i) (get_or taken pin 0) (rest i)
 
 pub AreStaged-agree : {A : Type 0} (made : Wires A) (stage : Driver → ℕ → A) (marks others : Marks) (needs taken : List ℕ) (pin : ℕ) (drivers : List Driver) →
-    Agree marks others needs pin drivers → AreStaged made stage marks needs taken pin drivers → AreStaged made stage others needs taken pin drivers
+    MarksAgree marks others needs pin drivers → AreStaged made stage marks needs taken pin drivers → AreStaged made stage others needs taken pin drivers
 AreStaged-agree made stage marks others needs taken pin [] same h = tt
 AreStaged-agree made stage marks others needs taken pin (driver ∷ drivers) same h =
     (λ e. h.0 (sym same.0 ∙ e), AreStaged-agree made stage marks others needs taken (pin + 1) drivers same.1 h.1)
