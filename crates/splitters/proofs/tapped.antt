@@ -1,3 +1,4 @@
+pub mod Taps
 pub mod Table
 pub mod Takers
 pub mod PinCount

@@ -37,7 +37,7 @@ with_cell cell stage pins layout = record layout {
   elements = layout.elements ++ Clocked cell stage pins layout.next ∷ [];
 }
 
--- a wire is spread over `targets` of them
+-- a wire is spread over its targets, `targets` of them
 abbrev pub with_spread : ℕ → ℕ → Layout → Layout
 with_spread wire targets layout = record layout {
   next = layout.next + 2 * (targets - 1);

@@ -20,7 +20,7 @@ use Rattle.flow_net.proofs.CallerLemmas.{use_drivers-are-pin_drivers, is_used-us
 use Rattle.dro_chains.specs.Chains.{chained_of}
 use Rattle.splitters.specs.Taps.{tap_count, taps_of, input_dros, gate_dros, chain_dros}
 use Rattle.splitters.specs.Laws.{DrosAreTheCount}
-use Rattle.splitters.proofs.tapped.Table.{length-taps_at}
+use Rattle.splitters.proofs.tapped.Taps.{length-taps_at}
 use Rattle.splitters.proofs.dros.Laid.{no-taps, dros_are_the_chains}
 
 -- a driver has its number alone among these uses

@@ -22,7 +22,7 @@ use Rattle.splitters.specs.Spread.{first_half, tree_lines, spread_lines}
 use Rattle.splitters.specs.Elements.{Layout, tap_wires, with_tap, with_dro, with_chain, input_wires, with_inputs, with_cell, with_gate, with_gates, inputs_of, empty_layout}
 use Rattle.splitters.specs.Taps.{taps_of, input_dros, gate_dros}
 use Rattle.splitters.specs.Laws.{DrosAreTheChains}
-use Rattle.splitters.proofs.tapped.Table.{tap_count-some, length-taps_at}
+use Rattle.splitters.proofs.tapped.Taps.{tap_count-some, length-taps_at}
 use Rattle.splitters.proofs.valid.Gates.{AreGatesFrom}
 use Rattle.splitters.proofs.valid.Whole.{gates-all}
 

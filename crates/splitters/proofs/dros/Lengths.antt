@@ -10,7 +10,8 @@ use Rattle.gate_net.specs.Net.{IsThere, pin_drivers}
 use Rattle.dro_chains.specs.declared.chain.Chained.{Chained}
 use Rattle.splitters.specs.Taps.{tap_count, taps_of, input_dros, gate_dros, chain_dros}
 use Rattle.splitters.specs.Table.{slot, HasLengths}
-use Rattle.splitters.proofs.tapped.Table.{slot-same, slot-other, slot-below, length-taps_at}
+use Rattle.splitters.proofs.tapped.Taps.{length-taps_at}
+use Rattle.splitters.proofs.tapped.Table.{slot-same, slot-other, slot-below}
 
 -- what the table has, with the needs of the pins from a number on, is what all pins make
 abbrev pub Lengthens : ℕ → ℕ → List ℕ → List Driver → List ℕ → ℕ → List Driver → Type 0

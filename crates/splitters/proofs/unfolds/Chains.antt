@@ -66,7 +66,7 @@ same-its driver need other its = by (same_driver driver other) (λ e. sym ((same
     by true equal h = equal refl
     by false equal h = absurd (true≢false (sym h))
 
--- a wire is spread over `targets` of them
+-- a wire is spread over its targets, `targets` of them
 spread-handed : (start : Unfolding) (elements : List Element) (next wire targets : ℕ) (driver : Driver) → 1 ≤ targets →
     IsFresh next (unfold_elements elements start).wires → found (unfold_elements elements start).wires wire ≡ Some driver →
     IsHanded (unfold_elements elements start) (unfold_elements (elements ++ spread_lines wire next targets) start) (next + 2 * (targets - 1)) driver (spread_wires wire next targets)

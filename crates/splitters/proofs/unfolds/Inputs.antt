@@ -16,7 +16,7 @@ use Rattle.splitters.specs.Elements.{Layout, with_chain, input_wires, wire_count
 use Rattle.splitters.specs.Taps.{taps_of}
 use Rattle.splitters.proofs.valid.Pins.{MarksAgree-all}
 use Rattle.splitters.proofs.valid.Chains.{by_driver, and_driver}
-use Rattle.splitters.proofs.tapped.Table.{tap_count-some}
+use Rattle.splitters.proofs.tapped.Taps.{tap_count-some}
 use Rattle.splitters.proofs.valid.Inputs.{before_input, before_input-next, before_input-late, MarksAgree-unused}
 use Rattle.splitters.proofs.unfolds.Wires.{IsFresh, with_wire-fresh, AreKept, AreKept-same, AreKept-then}
 use Rattle.splitters.proofs.unfolds.Chains.{so_far, Drives, Drives-agree, Step, Step-then, Drives-chain}

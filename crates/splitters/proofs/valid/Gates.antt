@@ -19,7 +19,7 @@ use Rattle.dro_chains.specs.declared.chain.Chained.{Chained}
 use Rattle.splitters.specs.Elements.{Layout, with_cell, with_chain, with_gate, with_gates, gate_pins}
 use Rattle.splitters.specs.Taps.{with_pin, tap_count, taps_at}
 use Rattle.splitters.specs.Laws.{tap_stage, PinsInTime, GatesInTime}
-use Rattle.splitters.proofs.tapped.Table.{tap_count-some}
+use Rattle.splitters.proofs.tapped.Taps.{tap_count-some}
 use Rattle.splitters.proofs.valid.Multiplicity.{once, times, times-append, after, nat_lt-next}
 use Rattle.splitters.proofs.valid.Frontier.{IsLaid-waits, IsLaid-cell}
 use Rattle.splitters.proofs.valid.Pins.{Marks, held, AreStaged, MarksAgree-all}

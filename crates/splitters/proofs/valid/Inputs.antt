@@ -20,7 +20,7 @@ use Rattle.splitters.proofs.valid.Multiplicity.{once, times, run, AreFound, once
 use Rattle.splitters.proofs.valid.Pins.{MarksAgree, MarksAgree-all}
 use Rattle.splitters.proofs.valid.Gates.{tap_stage-same}
 use Rattle.splitters.proofs.valid.Chains.{Stands, Stands-agree, by_driver, and_driver, Stands-chain}
-use Rattle.splitters.proofs.tapped.Table.{tap_count-some}
+use Rattle.splitters.proofs.tapped.Taps.{tap_count-some}
 
 -- how often a wire stands in a run
 pub times-run_out : (wire from count : ℕ) → from + count ≤ wire → times wire (run from count) ≡ 0

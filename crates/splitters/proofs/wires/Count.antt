@@ -12,7 +12,7 @@ use Rattle.flow_net.proofs.CallerLemmas.{is_used-uses_of}
 use Rattle.dro_chains.specs.declared.chain.Chained.{Chained}
 use Rattle.splitters.specs.Elements.{Layout, with_tap, with_dro, with_chain, input_wires, wire_count, with_inputs, with_cell, with_gate, with_gates, inputs_of, empty_layout, layout_of}
 use Rattle.splitters.specs.Taps.{takers, tap_count, taps_from, taps_of, input_dros, gate_dros, CanSplit}
-use Rattle.splitters.proofs.tapped.Table.{tap_count-some, length-taps_from}
+use Rattle.splitters.proofs.tapped.Taps.{tap_count-some, length-taps_from}
 use Rattle.splitters.proofs.tapped.PinCount.{tap_pins, pins_of, input_pins, gate_pins_of, tap_pins-few, driver_pins-few}
 use Rattle.splitters.proofs.tapped.Takers.{takers-last}
 
