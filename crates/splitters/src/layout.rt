@@ -68,7 +68,7 @@ impl Layout {
         Ok(out)
     }
 
-    /// The wires of so many pins from one on.
+    /// The wires of `count` pins from one on.
     pub(crate) fn wires(
         &self,
         alloc: Global,

@@ -19,10 +19,10 @@
 //! of chains, since a chain is as long as the largest need of its pins.
 //!
 //! Read `specs/Spread.antt` for the tree, `specs/Taps.antt` for who takes from which DRO, and `specs/Elements.antt` from
-//! `elements_of` down; `proofs/Examples.antt` evaluates them on small netlists. Central proofs: validity by a frontier of
-//! waiting wires (`proofs/WiredWhole.antt`), unfolding by the same induction with drivers (`proofs/UnfoldsWhole.antt`), the
-//! count of DROs by the law on driver numbers (`proofs/WiredCount.antt`), and that the wires are no more than their count
-//! (`proofs/LayoutCount.antt`).
+//! `elements_of` down; `proofs/Examples.antt` evaluates them on small netlists. Central proofs: validity by a frontier, how
+//! often each wire waits for a user (`proofs/valid/`, from `Frontier.antt` to `Whole.antt`), unfolding by the same induction
+//! with drivers (`proofs/unfolds/Whole.antt`), the count of DROs by the law on driver numbers (`proofs/dros/Count.antt`), and
+//! that the wires are no more than their count (`proofs/wires/Count.antt`).
 #![tactic(auto)]
 
 mod build;
@@ -33,8 +33,6 @@ mod layout;
 mod spread;
 mod table;
 mod taps;
-#[cfg(test)]
-mod tests;
 
 pub use build::split;
 pub use fits::can_split;
