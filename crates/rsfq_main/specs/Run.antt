@@ -75,6 +75,12 @@ IsUnwritten Done = ⊥
 IsUnwritten WriteFault = ⊥
 IsUnwritten status = Unit {0}
 
+-- what a sink has taken of these bytes: all of them on Done, and a proper front of them where a write failed
+abbrev pub TakesOutput : Status → List ℕ → Option (List ℕ) → Option (List ℕ) → Type 0
+TakesOutput Done bytes before after = Gains before after bytes
+TakesOutput WriteFault bytes before after = (k : ℕ) × (k < length bytes) × Gains before after (take k bytes)
+TakesOutput status bytes before after = ⊥
+
 -- what a sink has taken of an output: all of it on Done, and a proper front of it where a write failed
 abbrev pub Writes : Status → Option (List ℕ) → Option (List ℕ) → Result (List ℕ) Refusal → Type 0
 Writes Done before after output = (bytes : List ℕ) × (output ≡ Ok bytes) × Gains before after bytes
