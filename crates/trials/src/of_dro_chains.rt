@@ -1,8 +1,9 @@
 //! The limit of DROs: as many are chained, and one more is refused with the count.
 
+ghost use Rattle.std.specs.Prelude.{IfSome};
 ghost use Rattle.gate_net.specs.Net.{IsGateNet};
 
-use crate::gate_rows::{add_all, give_all};
+use crate::gate_rows::{add, give};
 use cell_lib::Cell;
 use dro_chains::{ChainFault, Chained, can_chain, chains};
 use flow_net::Epochs;
@@ -16,11 +17,26 @@ fn fill(alloc: Global, net: &mut GateNet) -> Option<()>
     requires { IsGateNet net.old }
     ensures { IsGateNet net.new }
 {
-    add_all(alloc, net, &[(Cell::Not, &[Driver::Input(2)])])?;
-    give_all(
-        net,
-        &[End::From(Driver::Input(0)), End::From(Driver::Input(1))],
-    )
+    add(alloc, net, Cell::Not, &[Driver::Input(2)])?;
+    give(net, End::From(Driver::Input(0)))?;
+    give(net, End::From(Driver::Input(1)))
+}
+
+fn gates(alloc: Global) -> Option<GateNet>
+    ensures { IfSome result IsGateNet }
+{
+    let mut net = GateNet::new(alloc, 3);
+    fill(alloc, &mut net)?;
+    Some(net)
+}
+
+// The epochs where the NOT has this one.
+fn epochs(alloc: Global, epoch: u32) -> Option<Epochs> {
+    let gates = List::from_slice(alloc, &[epoch]).ok()?;
+    Some(Epochs {
+        gates,
+        sink: 524_289,
+    })
 }
 
 fn is_at_the_limit(chained: &Chained) -> bool {
@@ -32,35 +48,40 @@ fn is_at_the_limit(chained: &Chained) -> bool {
         && chained.gates.gates.len() == 1
 }
 
-// The chains where the NOT has this epoch.
-fn chained(alloc: Global, net: GateNet, epoch: u32) -> Option<Result<Chained, ChainFault>>
+// Whether the chains are those of the limit, or their count is too many, as it is wanted.
+fn is_wanted(chained: &Result<Chained, ChainFault>, too_many: Option<u64>) -> bool {
+    match (chained, too_many) {
+        (Ok(chained), None) => is_at_the_limit(chained),
+        (Err(ChainFault::TooManyDros(count)), Some(wanted)) => *count == wanted,
+        _ => false,
+    }
+}
+
+fn is_chained(
+    alloc: Global,
+    net: GateNet,
+    epochs: &Epochs,
+    phases: &List<u32>,
+    too_many: Option<u64>,
+) -> bool
     requires { IsGateNet net }
 {
+    can_chain(&net, phases, 1, epochs)
+        && is_wanted(&chains(alloc, net, phases, 1, epochs), too_many)
+}
+
+// The epoch of the NOT, and the count that is too many.
+static EPOCHS: [(u32, Option<u64>); 2] = [(1, None), (2, Some(1_048_577))];
+
+fn is_kept(alloc: Global, epoch: u32, too_many: Option<u64>) -> Option<bool> {
     let phases = List::from_slice(alloc, &[0u32]).ok()?;
-    let gates = List::from_slice(alloc, &[epoch]).ok()?;
-    let epochs = Epochs {
-        gates,
-        sink: 524_289,
-    };
-    if !can_chain(&net, &phases, 1, &epochs) {
-        return None;
-    }
-    Some(chains(alloc, net, &phases, 1, &epochs))
-}
-
-fn of_epoch(alloc: Global, epoch: u32) -> Option<Result<Chained, ChainFault>> {
-    let mut net = GateNet::new(alloc, 3);
-    fill(alloc, &mut net)?;
-    chained(alloc, net, epoch)
-}
-
-fn is_limit_kept(alloc: Global) -> Option<bool> {
-    let least = of_epoch(alloc, 1)?.ok()?;
-    let fault = of_epoch(alloc, 2)?.err()?;
-    Some(is_at_the_limit(&least) && fault == ChainFault::TooManyDros(1_048_577))
+    let epochs = epochs(alloc, epoch)?;
+    let net = gates(alloc)?;
+    Some(is_chained(alloc, net, &epochs, &phases, too_many))
 }
 
 #[test]
 fn as_many_dros_as_the_limit_are_chained_and_one_more_is_refused_with_the_count(rt: HostRuntime) {
-    assert!(rt; is_limit_kept(rt.alloc()) == Some(true));
+    let alloc = rt.alloc();
+    assert!(rt; EPOCHS.iter().all(|(epoch, count)| is_kept(alloc, *epoch, *count) == Some(true)));
 }

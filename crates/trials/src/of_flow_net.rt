@@ -48,8 +48,7 @@ fn is_network(alloc: Global, gates: &GateNet) -> Option<bool>
         return None;
     }
     let net = net_of(alloc, gates, &phases).ok()?;
-    let copy = net.clone().ok()?;
-    Some(pin_count(gates) == 6 && are_six_pins(&net) && copy == net)
+    Some(pin_count(gates) == 6 && are_six_pins(&net))
 }
 
 fn is_network_of_three(alloc: Global) -> Option<bool> {

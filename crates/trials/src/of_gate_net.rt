@@ -101,11 +101,17 @@ fn are_drivers(alloc: Global, net: &GateNet, ends: &[End], used: bool) -> Option
     )
 }
 
+fn is_right(alloc: Global, net: &mut GateNet, ends: &[End], used: bool) -> Option<bool>
+    requires { IsGateNet net.old }
+{
+    let right = are_numbered(alloc, net)?;
+    give_all(net, ends)?;
+    Some(right && are_drivers(alloc, net, ends, used)?)
+}
+
 fn is_used(alloc: Global, ends: &[End], used: bool) -> Option<bool> {
     let mut net = GateNet::new(alloc, 2);
-    let right = are_numbered(alloc, &mut net)?;
-    give_all(&mut net, ends)?;
-    Some(right && are_drivers(alloc, &net, ends, used)?)
+    is_right(alloc, &mut net, ends, used)
 }
 
 #[test]

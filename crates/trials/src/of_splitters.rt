@@ -124,8 +124,9 @@ fn laid_out(alloc: Global, chained: Chained, names: Names) -> Option<PulseNet>
 }
 
 fn netlist(alloc: Global, phases: &List<u32>, epochs: &Epochs) -> Option<PulseNet> {
+    let names = names(alloc, 1, READS as usize)?;
     let chained = chained(alloc, ladder(alloc)?, phases, epochs)?;
-    laid_out(alloc, chained, names(alloc, 1, READS as usize)?)
+    laid_out(alloc, chained, names)
 }
 
 // The last gate stands 100,000 ticks behind the input, and the last DRO 4 ticks before it.
@@ -141,19 +142,24 @@ fn is_ladder(unfolded: &Unfolded, gates: &GateNet, phases: &List<u32>, epochs: &
 
 fn is_unfolded(
     alloc: Global,
+    net: &PulseNet,
     gates: &GateNet,
     phases: &List<u32>,
     epochs: &Epochs,
 ) -> Option<bool> {
-    let net = netlist(alloc, phases, epochs)?;
-    let unfolded = unfolded(alloc, &net)?;
+    let unfolded = unfolded(alloc, net)?;
     Some(net.elements.len() == 224_998 && is_ladder(&unfolded, gates, phases, epochs))
+}
+
+fn is_kept(alloc: Global, gates: &GateNet, phases: &List<u32>, epochs: &Epochs) -> Option<bool> {
+    let net = netlist(alloc, phases, epochs)?;
+    is_unfolded(alloc, &net, gates, phases, epochs)
 }
 
 fn is_laid_out(alloc: Global) -> Option<bool> {
     let gates = ladder(alloc)?;
     let (phases, epochs) = clocked(alloc, &gates)?;
-    is_unfolded(alloc, &gates, &phases, &epochs)
+    is_kept(alloc, &gates, &phases, &epochs)
 }
 
 #[test]

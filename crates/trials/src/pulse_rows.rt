@@ -46,6 +46,12 @@ fn push_elements(alloc: Global, elements: &mut List<Element>, parts: &[Part]) ->
     Some(())
 }
 
+fn elements_of(alloc: Global, parts: &[Part]) -> Option<List<Element>> {
+    let mut elements = List::new(alloc);
+    push_elements(alloc, &mut elements, parts)?;
+    Some(elements)
+}
+
 fn push_names(alloc: Global, names: &mut List<Name>, count: usize) -> Option<()> {
     for _ in 0..count {
         names.push(Name::of(alloc, b"x").ok()?).ok()?;
@@ -71,16 +77,18 @@ pub(crate) fn names(alloc: Global, inputs: usize, outputs: usize) -> Option<Name
 
 /// The netlist of a drawing.
 pub(crate) fn drawn(alloc: Global, drawing: &Drawing) -> Option<PulseNet> {
-    let mut net = PulseNet {
-        names: names(alloc, drawing.inputs.len(), drawing.outputs.len())?,
+    let inputs = List::from_slice(alloc, drawing.inputs).ok()?;
+    let outputs = List::from_slice(alloc, drawing.outputs).ok()?;
+    let elements = elements_of(alloc, drawing.parts)?;
+    let names = names(alloc, drawing.inputs.len(), drawing.outputs.len())?;
+    Some(PulseNet {
+        names,
         phases: drawing.phases,
         latency: drawing.latency,
-        inputs: List::from_slice(alloc, drawing.inputs).ok()?,
-        elements: List::new(alloc),
-        outputs: List::from_slice(alloc, drawing.outputs).ok()?,
-    };
-    push_elements(alloc, &mut net.elements, drawing.parts)?;
-    Some(net)
+        inputs,
+        elements,
+        outputs,
+    })
 }
 
 fn are_few(net: &PulseNet) -> bool

@@ -2,7 +2,7 @@
 
 use crate::pulse_rows::{Drawing, Part, drawn, found};
 use cell_lib::Cell;
-use pulse_net::{Invalid, Outlet, Place, ValidFault, Wrong};
+use pulse_net::{Invalid, Outlet, Place, PulseNet, ValidFault, Wrong};
 use std::alloc::Global;
 
 // A netlist, and where it breaks which rule; None where it is valid.
@@ -179,14 +179,18 @@ fn wanted_of(broken: Option<(Place, Wrong)>) -> Result<(), ValidFault> {
     }
 }
 
-fn is_found(alloc: Global, row: &Row) -> Option<bool> {
+fn is_found(alloc: Global, net: &PulseNet, broken: Option<(Place, Wrong)>) -> Option<bool> {
+    Some(found(alloc, net)? == wanted_of(broken))
+}
+
+fn is_right(alloc: Global, row: &Row) -> Option<bool> {
     let (drawing, broken) = row;
     let net = drawn(alloc, drawing)?;
-    Some(found(alloc, &net)? == wanted_of(*broken))
+    is_found(alloc, &net, *broken)
 }
 
 #[test]
 fn the_first_broken_rule_is_named(rt: HostRuntime) {
     let alloc = rt.alloc();
-    assert!(rt; ROWS.iter().all(|row| is_found(alloc, row) == Some(true)));
+    assert!(rt; ROWS.iter().all(|row| is_right(alloc, row) == Some(true)));
 }
