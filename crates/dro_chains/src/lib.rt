@@ -17,7 +17,5 @@
 
 mod chain;
 mod parts;
-#[cfg(test)]
-mod tests;
 
 pub use chain::{ChainFault, Chained, MAX_DROS, can_chain, chains};
