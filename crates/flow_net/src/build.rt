@@ -1,6 +1,6 @@
 //! The network of a gate netlist.
 
-ghost use Rattle.std.specs.Prelude.{◌≡◌, ◌+◌, ◌^◌, ◌<◌, ◌≤◌, ℕ, All, IfOk, length, map, slice_index};
+ghost use Rattle.std.specs.Prelude.{◌≡◌, ◌+◌, ◌^◌, ◌<◌, ◌≤◌, All, IfOk, length, map, slice_index};
 ghost use Rattle.std.specs.List.{flat_map};
 ghost use Rattle.gate_net.specs.Net.{IsThere, IsGateNet, AreGates, end_drivers};
 ghost use Rattle.flow_net.specs.Uses.{number_by, gate_uses, uses_of};

@@ -18,6 +18,7 @@
 //! for each DRO that it passed, for n phases; and `dros_follow_depths` says that its driver has k DROs at least where the
 //! wire passed k of them.
 //! Only `valid` and `unfold` take memory.
+//! Only tested, in `trials`: that memory suffices where it is ample, up to 224,998 elements.
 //! Not promised: that a chip behaves so. There are no picoseconds, bias currents or clock skew in this model.
 //!
 //! Read `specs/Formed.antt` and `specs/Validity.antt` for the rules in order, `specs/Wires.antt` for the fold that says

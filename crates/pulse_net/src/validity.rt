@@ -1,9 +1,9 @@
 //! Whether a netlist is valid, and else the first rule that it breaks.
 
-ghost use Rattle.std.specs.Prelude.{◌≡◌, ◌<◌, ◌^◌, ◌↔◌, ◌+◌, ◌*◌, ◌||◌, ◌==◌, Ok, IsOk, IfOk, IfErr, MatchResult, length, true};
+ghost use Rattle.std.specs.Prelude.{◌≡◌, ◌<◌, ◌^◌, ◌*◌, ◌||◌, ◌==◌, Ok, IfOk, IfErr, length};
 ghost use Rattle.std.specs.List.{list_any};
 ghost use Rattle.pulse_net.specs.Formed.{IsFormed};
-ghost use Rattle.pulse_net.specs.Validity.{IsValid, at, unwired, wiring_of, wire_inputs, wire_elements, wire_outputs, check_latency, close_wires, has_wire};
+ghost use Rattle.pulse_net.specs.Validity.{IsValid, unwired, wiring_of, wire_inputs, wire_elements, wire_outputs, close_wires, has_wire};
 ghost use Rattle.net_base.specs.Answers.{Tells};
 ghost use Rattle.pulse_net.specs.Refusals.{ObeysRules, told_by, placed};
 

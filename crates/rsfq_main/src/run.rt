@@ -5,7 +5,7 @@ ghost use Rattle.io_edge.specs.Counts.{AreLater, Rose};
 ghost use Rattle.io_edge.specs.WriteAll.{FailedOrStalled};
 ghost use Rattle.rsfq_main.specs.declared.fault.Fault.TheVariants.{Write};
 ghost use Rattle.rsfq_main.specs.Words.{command_of as command_in};
-ghost use Rattle.rsfq_main.specs.Commands.{limit_of, output_of, IsMeant};
+ghost use Rattle.rsfq_main.specs.Commands.{output_of, IsMeant};
 ghost use Rattle.rsfq_main.specs.Faults.{outcome_status, fault_status, fault_line};
 ghost use Rattle.rsfq_main.specs.Outcomes.{IsInput, IsOutcome, OverText};
 ghost use Rattle.rsfq_main.specs.Run.{ComesExactly, IsDoneOrNoMemory, Asks, LeavesSource, read_limit, IsUnwritten, TakesOutput, Writes, WritesMeaning, Appends, IsNoteOf, TakesLine};

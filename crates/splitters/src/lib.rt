@@ -15,6 +15,7 @@
 //! (`chains_are_valid`). It has as many DROs as the chain lengths sum up to, the DRO count of the epochs
 //! (`dros_are_the_count`), and it unfolds to the gates, phases and epochs that the chains were made for (`unfolds`,
 //! `chains_unfold`).
+//! Only tested, in `trials` and by runs of the program: that memory suffices where it is ample, up to 224,998 elements.
 //! Not promised: that `NoMemory` comes only where memory is short, and how long `split` takes. It doesn't read the lengths
 //! of chains, since a chain is as long as the largest need of its pins.
 //!

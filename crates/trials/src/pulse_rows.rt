@@ -1,7 +1,6 @@
 //! Netlists of pulse elements made by hand, looked through and unfolded where they are not too long.
 
 ghost use Rattle.std.specs.Prelude.{◌<◌, ◌^◌, length, IsTrue};
-ghost use Rattle.pulse_net.specs.Formed.{IsFormed};
 
 use cell_lib::Cell;
 use net_base::{List, Name};
