@@ -21,7 +21,7 @@ const INPUT: Driver = Driver::Input(0);
 // Phases, what the one pin needs, and whether its chain can be laid out: 2 ^ 32 wires are too many, and so are as many ticks.
 static NEEDS: [(u32, u32, bool); 3] = [(1, 0, true), (1, u32::MAX, false), (2, u32::MAX, false)];
 
-// An input that is an output, by way of so many DROs.
+// An input that is an output, by way of `need` DROs.
 fn delayed(alloc: Global, n: u32, need: u32) -> Option<Chained>
     ensures { IfSome result (λ chained. IsGateNet chained.gates) }
 {
