@@ -9,6 +9,7 @@
 //! given, or `TooManyDros` exactly where the DRO count is above `MAX_DROS`, with the count, unless memory fails.
 //! `can_chain` tells exactly where it may be called: the netlist has a network, there is an epoch for each gate, and each
 //! stage and the latency in ticks fit 32 bits.
+//! Only tested, in `trials`: that memory suffices for as many DROs as the limit allows.
 //! Not promised: that the epochs are the best, nor, without `HasChains`, that the chains balance anything.
 //!
 //! Read `specs/Chains.antt` from `chained_of`. `chain_lengths` and `dro_count` are those of the network's epochs. That a
@@ -17,7 +18,5 @@
 
 mod chain;
 mod parts;
-#[cfg(test)]
-mod tests;
 
 pub use chain::{ChainFault, Chained, MAX_DROS, can_chain, chains};

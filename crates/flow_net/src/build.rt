@@ -1,6 +1,6 @@
 //! The network of a gate netlist.
 
-ghost use Rattle.std.specs.Prelude.{◌≡◌, ◌+◌, ◌^◌, ◌<◌, ◌≤◌, ℕ, All, IfOk, length, map, slice_index};
+ghost use Rattle.std.specs.Prelude.{◌≡◌, ◌+◌, ◌^◌, ◌<◌, ◌≤◌, All, IfOk, length, map, slice_index};
 ghost use Rattle.std.specs.List.{flat_map};
 ghost use Rattle.gate_net.specs.Net.{IsThere, IsGateNet, AreGates, end_drivers};
 ghost use Rattle.flow_net.specs.Uses.{number_by, gate_uses, uses_of};
@@ -140,51 +140,4 @@ pub fn net_of(alloc: Global, net: &GateNet, phases: &List<u32>) -> Result<Net, N
         drivers: numbers[net.inputs as usize] + gates,
         pins: List::from_vec(pins),
     })
-}
-
-#[cfg(test)]
-mod tests {
-    use super::*;
-    use cell_lib::Cell;
-    use gate_net::End;
-    use std::test::Fail;
-
-    // The first input has no use, so it is no driver.
-    #[test]
-    fn a_row_of_three_gates_has_six_pins_and_four_drivers(rt: HostRuntime) -> Result<(), Fail> {
-        let alloc = rt.alloc();
-        let input = Driver::Input(1);
-        let mut gates = GateNet::new(alloc, 2);
-        gates.gate(Cell::Not, List::from_slice(alloc, &[input])?)?;
-        gates.gate(
-            Cell::And,
-            List::from_slice(alloc, &[input, Driver::Gate(0)])?,
-        )?;
-        gates.gate(
-            Cell::Or,
-            List::from_slice(alloc, &[Driver::Gate(1), input])?,
-        )?;
-        gates.output(End::From(Driver::Gate(2)))?;
-        gates.output(End::Zero)?;
-        assert_eq!(rt; gates.gates.len(), 3);
-        assert_eq!(rt; pin_count(&gates), 6);
-        let net = net_of(alloc, &gates, &List::from_slice(alloc, &[0u32, 0, 0])?)?;
-        let pin = |driver: u32, from: u32, to: u32| Pin {
-            driver,
-            from,
-            to,
-            weight: 1,
-        };
-        let wanted = [
-            pin(0, 0, 1),
-            pin(0, 0, 2),
-            pin(1, 1, 2),
-            pin(2, 2, 3),
-            pin(0, 0, 3),
-            pin(3, 3, 4),
-        ];
-        assert_eq!(rt; [net.gates, net.drivers], [3u32, 4]);
-        assert_eq!(rt; net.pins.as_slice(), wanted.as_slice());
-        Ok(())
-    }
 }

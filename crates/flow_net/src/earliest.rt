@@ -51,38 +51,3 @@ pub fn earliest_epochs(
     let sink = 1 + last_epoch(gates.as_slice(), net.outputs.as_slice());
     Ok(Epochs { gates, sink })
 }
-
-#[cfg(test)]
-mod tests {
-    use super::*;
-    use cell_lib::Cell;
-    use gate_net::Driver;
-    use phase_rule::levels;
-    use std::test::Fail;
-
-    #[test]
-    fn the_earliest_epochs_are_the_levels_over_the_phases(rt: HostRuntime) -> Result<(), Fail> {
-        let alloc = rt.alloc();
-        let input = Driver::Input(0);
-        let mut net = GateNet::new(alloc, 1);
-        net.gate(Cell::Not, List::from_slice(alloc, &[input])?)?;
-        net.gate(
-            Cell::And,
-            List::from_slice(alloc, &[input, Driver::Gate(0)])?,
-        )?;
-        net.gate(
-            Cell::Or,
-            List::from_slice(alloc, &[Driver::Gate(1), input])?,
-        )?;
-        net.output(End::From(Driver::Gate(2)))?;
-        net.output(End::One)?;
-        let levels = levels(alloc, &net)?;
-        let one = earliest_epochs(alloc, &net, &levels, 1)?;
-        assert_eq!(rt; one.gates.as_slice(), [1u32, 2, 3].as_slice());
-        assert_eq!(rt; one.sink, 4);
-        let two = earliest_epochs(alloc, &net, &levels, 2)?;
-        assert_eq!(rt; two.gates.as_slice(), [0u32, 1, 1].as_slice());
-        assert_eq!(rt; two.sink, 2);
-        Ok(())
-    }
-}

@@ -10,7 +10,8 @@
 //! `chain_lengths` is for each driver the largest need of its pins, since they all tap one chain, and `dro_count` is the
 //! sum: what epochs cost. `earliest_epochs` has for each gate its level over n, and the sink 1 behind the last driver of an
 //! output; with phases from levels they are balanced (`earliest_epochs_are_balanced`). The only refusal is `NoMemory`.
-//! Not promised: that epochs are the best.
+//! Only tested, in `trials` and by runs of the program: that memory suffices where it is ample.
+//! Not promised: that epochs are the best. Flows are defined, and nothing is proved of them yet.
 //!
 //! Read `specs/Uses.antt` and `specs/Network.antt` for the network, `specs/DriverNumbers.antt` for the law on numbers,
 //! `specs/Epochs.antt` for `IsBalanced` and `dro_count`, `specs/Arcs.antt` for the arcs, and `specs/Flows.antt` for full

@@ -110,35 +110,3 @@ impl Gates {
         self.rows.as_slice()
     }
 }
-
-#[cfg(test)]
-mod tests {
-    use super::*;
-    use crate::Driver;
-    use cell_lib::Cell;
-    use std::test::Fail;
-
-    fn inverter(alloc: Global, input: u32) -> Result<GateRow, AllocError> {
-        Ok(GateRow {
-            cell: Cell::Not,
-            pins: List::from_slice(alloc, &[Driver::Input(input)])?,
-        })
-    }
-
-    #[test]
-    fn the_first_of_equal_gates_is_found(rt: HostRuntime) -> Result<(), Fail> {
-        let alloc = rt.alloc();
-        let mut gates = Gates::new(alloc);
-        assert!(rt; gates.is_empty());
-        gates.push(inverter(alloc, 1)?)?;
-        gates.push(inverter(alloc, 0)?)?;
-        gates.push(inverter(alloc, 1)?)?;
-        assert_eq!(rt; gates.len(), 3);
-        assert_eq!(rt; gates.find(&inverter(alloc, 1)?), Some(0));
-        assert_eq!(rt; gates.find(&inverter(alloc, 0)?), Some(1));
-        assert_eq!(rt; gates.find(&inverter(alloc, 2)?), None);
-        assert_eq!(rt; gates.get(2).pins.as_slice(), [Driver::Input(1)].as_slice());
-        assert_eq!(rt; gates.as_slice().len(), 3);
-        Ok(())
-    }
-}

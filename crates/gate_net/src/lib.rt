@@ -11,6 +11,7 @@
 //! `is_each_gate_used` tells whether each gate drives a pin or an output.
 //! The laws are `gates_follow_drivers`, `later_gates_keep_values`, `added_gates_keep_nets` and
 //! `ascending_keeps_drivers`.
+//! Only tested, in `trials`: that memory suffices where it is ample.
 //! Not promised: that every gate has a use, that `gate` puts pins in order, and how fast the index finds a gate
 //! (expected constant time).
 //!

@@ -66,33 +66,3 @@ impl GateNet {
         self.outputs.push(end)
     }
 }
-
-#[cfg(test)]
-mod tests {
-    use super::*;
-    use crate::is_each_gate_used;
-    use std::test::Fail;
-
-    #[test]
-    fn an_equal_gate_is_found_and_not_added_again(rt: HostRuntime) -> Result<(), Fail> {
-        let alloc = rt.alloc();
-        let mut net = GateNet::new(alloc, 2);
-        let both = [Driver::Input(0), Driver::Input(1)];
-        let and = net.gate(Cell::And, List::from_slice(alloc, &both)?)?;
-        let or = net.gate(Cell::Or, List::from_slice(alloc, &both)?)?;
-        let again = net.gate(Cell::And, List::from_slice(alloc, &both)?)?;
-        let turned = [Driver::Input(1), Driver::Input(0)];
-        let other = net.gate(Cell::And, List::from_slice(alloc, &turned)?)?;
-        net.output(End::From(Driver::Gate(and)))?;
-        net.output(End::One)?;
-        assert_eq!(rt; [and, or, again, other], [0u32, 1, 0, 2]);
-        assert_eq!(rt; net.gates.len(), 3);
-        assert_eq!(rt;
-            net.outputs.as_slice(),
-            [End::From(Driver::Gate(0)), End::One].as_slice()
-        );
-        // Only the AND drives an output, and no gate drives a pin.
-        assert!(rt; !is_each_gate_used(alloc, &net)?);
-        Ok(())
-    }
-}

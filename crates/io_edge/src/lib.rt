@@ -2,7 +2,8 @@
 //!
 //! A [`Source`] gives bytes in pieces, and a [`Sink`] takes them in pieces. Contracts see a source as the bytes still
 //! to come (`left`) and a sink as the bytes taken (`taken`), where it tells them; each also counts what went wrong (`faults`
-//! of a source, `counts` of a sink), and no count falls. So a caller can promise that it blames a stream only where the stream's count rose.
+//! of a source, `counts` of a sink), and no count falls. So a caller can promise that it blames a stream only where the
+//! stream's count rose.
 //!
 //! Promised. A read moves a piece from the front of what is left to the front of the buffer, and gives none exactly at
 //! the end (`moved`); one that fails moves nothing and raises `faults` (`kept`, `failed`). A write is the mirror of it,
@@ -13,6 +14,8 @@
 //! In memory, [`MemSource`] and [`MemSink`] say exactly what each call does, by piece, room and planned faults (`fails`,
 //! `size`, `state`). [`StdSource`] and [`StdSink`] are the trusted edge: they tell no content, and count each error.
 //!
+//! Only tested, in `trials` and by runs of the program: the two adapters on real bytes; that memory suffices where it is
+//! ample.
 //! Not promised: what a stream of std reads or writes, that what it took has arrived, or how long a call takes.
 //! A count stands still at 2^64 - 1, and still counts as risen there.
 //!

@@ -1,5 +1,5 @@
 //! A whole text to a sink.
-ghost use Rattle.std.specs.Prelude.{◌≡◌, ◌<◌, ◌≤◌, length, take, OnOk, IfErr, OnErr};
+ghost use Rattle.std.specs.Prelude.{◌≡◌, ◌<◌, length, take, OnOk, IfErr, OnErr};
 ghost use Rattle.io_edge.specs.Counts.{AreLater};
 ghost use Rattle.io_edge.specs.Sink.{Gains};
 ghost use Rattle.io_edge.specs.WriteAll.{FailedOrStalled};

@@ -1,6 +1,6 @@
 //! The graph of AND and NOT nodes as plain data, and the test for a proper one.
 
-ghost use Rattle.std.specs.Prelude.{◌≡◌, ◌+◌, ◌<◌, ◌^◌, ◌↔◌, IsTrue, All, length};
+ghost use Rattle.std.specs.Prelude.{◌<◌, ◌↔◌, IsTrue, All};
 ghost use Rattle.net_base.specs.Graph.{IsNodeAt, AreNodes, IsProper, IsRefThere, IsSubject};
 
 use crate::List;

@@ -11,6 +11,7 @@
 //! `is_proper` and `is_subject` tell which graphs are proper and which outputs they may have. `nodes_follow_fan_ins` says
 //! that in a proper graph each node has the value that its fan-ins give it, and `later_nodes_keep_values` that nodes which
 //! are added later change no value.
+//! Only tested, in `trials`: that memory suffices where it is ample, and how a name is printed.
 //! Not promised: anything on capacity; that equal nodes of a graph are one.
 //!
 //! Read `specs/Name.antt` for what a name is, `specs/Graph.antt` for proper graphs, `specs/NodeValues.antt` for the value of

@@ -125,30 +125,3 @@ impl<T: Hash> Hash for List<T> {
         self.items.hash(state);
     }
 }
-
-#[cfg(test)]
-mod tests {
-    use super::*;
-    use std::test::Fail;
-
-    #[test]
-    fn a_list_keeps_its_items_in_the_order_of_the_pushes(rt: HostRuntime) -> Result<(), Fail> {
-        let mut list: List<u32> = List::new(rt.alloc());
-        assert!(rt; list.is_empty());
-        for item in [7u32, 3, 7] {
-            list.push(item)?;
-        }
-        let copy = list.clone()?;
-        assert_eq!(rt; copy.len(), 3);
-        assert_eq!(rt; *copy.get(1), 3);
-        assert!(rt; copy == list);
-        let longer = {
-            let mut items = copy.into_vec();
-            items.push(9)?;
-            List::from_vec(items)
-        };
-        assert_eq!(rt; longer.as_slice(), [7u32, 3, 7, 9].as_slice());
-        assert!(rt; longer != list);
-        Ok(())
-    }
-}

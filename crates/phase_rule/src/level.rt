@@ -61,39 +61,3 @@ pub fn phases(alloc: Global, levels: &List<u32>, n: u32) -> Result<List<u32>, No
         .collect(alloc)?;
     Ok(List::from_vec(phases))
 }
-
-#[cfg(test)]
-mod tests {
-    use super::*;
-    use cell_lib::Cell;
-    use gate_net::End;
-    use std::test::Fail;
-
-    #[test]
-    fn a_gate_is_one_level_above_its_highest_driver(rt: HostRuntime) -> Result<(), Fail> {
-        let alloc = rt.alloc();
-        let input = Driver::Input(0);
-        let mut net = GateNet::new(alloc, 1);
-        net.gate(Cell::Not, List::from_slice(alloc, &[input])?)?;
-        net.gate(
-            Cell::And,
-            List::from_slice(alloc, &[input, Driver::Gate(0)])?,
-        )?;
-        net.gate(
-            Cell::Or,
-            List::from_slice(alloc, &[Driver::Gate(1), input])?,
-        )?;
-        net.output(End::From(Driver::Gate(2)))?;
-        let levels = levels(alloc, &net)?;
-        assert_eq!(rt; levels.as_slice(), [1u32, 2, 3].as_slice());
-        assert_eq!(rt;
-            phases(alloc, &levels, 1)?.as_slice(),
-            [0u32, 0, 0].as_slice()
-        );
-        assert_eq!(rt;
-            phases(alloc, &levels, 2)?.as_slice(),
-            [1u32, 0, 1].as_slice()
-        );
-        Ok(())
-    }
-}

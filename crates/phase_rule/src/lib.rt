@@ -10,6 +10,7 @@
 //! user comes later than its driver exactly where its epoch is the weight or more above the driver's, and the DROs
 //! between them are the same counted in stages (the gap over n, rounded up, less 1) and in epochs (the gap less the
 //! weight). `need_leaves_one_window`: behind those DROs, 1 to n stages are left. The only refusal is `NoMemory`.
+//! Only tested, by runs of the program: that memory suffices where it is ample.
 //! Not promised: that a level modulo n is the best choice of a phase.
 //!
 //! Read `specs/Levels.antt` and `specs/Stages.antt`. The central proof is `proofs/Gaps.antt`.

@@ -9,21 +9,3 @@ pub fn weight(user: u32, driver: u32) -> u32
 {
     if driver < user { 0 } else { 1 }
 }
-
-#[cfg(test)]
-mod tests {
-    use super::*;
-
-    #[test]
-    fn only_a_greater_phase_of_the_user_has_weight_0(rt: HostRuntime) {
-        for (user, driver, wanted) in [
-            (0u32, 0u32, 1u32),
-            (1, 0, 0),
-            (0, 1, 1),
-            (15, 14, 0),
-            (15, 15, 1),
-        ] {
-            assert_eq!(rt; weight(user, driver), wanted, "{user} behind {driver}");
-        }
-    }
-}

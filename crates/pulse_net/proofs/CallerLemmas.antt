@@ -14,9 +14,9 @@ use Rattle.pulse_net.specs.Wires.{Wires, found, carried, element_wires, after_el
 use Rattle.pulse_net.specs.Wired.{ElementsInTime}
 use Rattle.pulse_net.specs.Unfolding.{Unfolding, with_wire, dro_driver, pass_dro, add_gate, unfold_cell, unfold_element, unfold_elements}
 use Rattle.pulse_net.specs.Dros.{dros}
-use Rattle.pulse_net.proofs.Tables.{with_wire-new}
-pub use Rattle.pulse_net.proofs.Unbroken.{unbroken}
-pub use Rattle.pulse_net.proofs.Dros.{unfolds_its_dros}
+use Rattle.pulse_net.proofs.InsertedWires.{with_wire-new}
+pub use Rattle.pulse_net.proofs.UnbrokenIsWired.{unbroken}
+pub use Rattle.pulse_net.proofs.UnfoldsItsDros.{unfolds_its_dros}
 
 -- ---- what wires carry
 
@@ -49,9 +49,9 @@ module _ {A : Type 0} (absent : A) (at_cell : Cell → ℕ → List A → A) whe
       ∙ lookup-behind (nat_eq wire) before (element_wires absent at_cell before element) new
 
 -- Elements keep time where the first do, and those that follow do behind them.
-pub ElementsInTime-append : (phases : ℕ) (made : Wires ℕ) (xs ys : List Element) → ElementsInTime phases made xs → ElementsInTime phases (after_elements 0 cell_stage made xs) ys → ElementsInTime phases made (xs ++ ys)
-ElementsInTime-append phases made [] ys before rest = rest
-ElementsInTime-append phases made (x ∷ xs) ys before rest = (before.0, ElementsInTime-append phases (made ++ element_wires 0 cell_stage made x) xs ys before.1 rest)
+pub ElementsInTime-append : (n : ℕ) (made : Wires ℕ) (xs ys : List Element) → ElementsInTime n made xs → ElementsInTime n (after_elements 0 cell_stage made xs) ys → ElementsInTime n made (xs ++ ys)
+ElementsInTime-append n made [] ys before rest = rest
+ElementsInTime-append n made (x ∷ xs) ys before rest = (before.0, ElementsInTime-append n (made ++ element_wires 0 cell_stage made x) xs ys before.1 rest)
 
 -- The DROs of elements are those of the first and of the rest.
 pub dros-append : (xs ys : List Element) → dros (xs ++ ys) ≡ dros xs + dros ys

@@ -29,11 +29,11 @@ one_input = record { model = 109 ∷ []; inputs = (97 ∷ []) ∷ []; outputs = 
 
 -- a netlist with inputs a and b on wires 0 and 1
 abbrev on_two : ℕ → ℕ → List Element → Outlet → PulseNet
-on_two phases latency elements output = record { names = two_inputs; phases = phases; latency = latency; inputs = Some 0 ∷ (Some 1 ∷ []); elements = elements; outputs = output ∷ [] }
+on_two n latency elements output = record { names = two_inputs; phases = n; latency = latency; inputs = Some 0 ∷ (Some 1 ∷ []); elements = elements; outputs = output ∷ [] }
 
 -- a netlist with input a on wire 0
 abbrev on_one : ℕ → ℕ → List Element → Outlet → PulseNet
-on_one phases latency elements output = record { names = one_input; phases = phases; latency = latency; inputs = Some 0 ∷ []; elements = elements; outputs = output ∷ [] }
+on_one n latency elements output = record { names = one_input; phases = n; latency = latency; inputs = Some 0 ∷ []; elements = elements; outputs = output ∷ [] }
 
 -- the values read at the output for these rows
 abbrev reads : PulseNet → List (List Bool) → List ℕ → List Bool
@@ -84,7 +84,7 @@ two_phases-is_valid = record {
 two_phases-reads : reads two_phases four_rows (0 ∷ (1 ∷ (2 ∷ (3 ∷ [])))) ≡ false ∷ (true ∷ (false ∷ (false ∷ [])))
 two_phases-reads = refl
 
--- an inverter one epoch behind its input: the gap is four, as many as there are phases
+-- an inverter one epoch behind its input: the gap is four, the number of phases
 abbrev one_epoch_behind : PulseNet
 one_epoch_behind = on_one 4 2 (Clocked Not 4 (0 ∷ []) 1 ∷ []) (Wire 1)
 
@@ -105,7 +105,7 @@ one_epoch_behind-warms_up = refl
 gap_of_five : wiring_of (on_one 4 2 (Clocked Not 5 (0 ∷ []) 1 ∷ []) (Wire 1)) ≡ broken (AtElement 0) (Gap 0 (pos 5))
 gap_of_five = refl
 
--- and with a DRO on the way it is one
+-- and with a DRO on the way the inverter's gap is 1
 abbrev by_way_of_dro : PulseNet
 by_way_of_dro = on_one 4 2 (Clocked Dro 4 (0 ∷ []) 1 ∷ (Clocked Not 5 (1 ∷ []) 2 ∷ [])) (Wire 2)
 

@@ -17,9 +17,9 @@ use Rattle.pulse_net.specs.Unfolding.{unfolded, gate_wires}
 
 -- a model `m` with inputs `a`, `b` and `c` on wires 0, 1 and 2, whose output `f` is their majority, at stage 1
 abbrev majority : ℕ → ℕ → PulseNet
-majority phases latency = record {
+majority n latency = record {
   names = record { model = 109 ∷ []; inputs = (97 ∷ []) ∷ ((98 ∷ []) ∷ ((99 ∷ []) ∷ [])); outputs = (102 ∷ []) ∷ [] };
-  phases = phases;
+  phases = n;
   latency = latency;
   inputs = Some 0 ∷ (Some 1 ∷ (Some 2 ∷ []));
   elements = Clocked Maj 1 (0 ∷ (1 ∷ (2 ∷ []))) 3 ∷ [];

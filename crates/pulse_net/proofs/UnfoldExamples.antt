@@ -19,9 +19,9 @@ use Rattle.pulse_net.specs.Depths.{depths_of, dros_behind}
 
 -- a model `m` with inputs `a` and `b` on wires 0 and 1, and an output `f`
 abbrev netlist : ℕ → ℕ → List Element → Outlet → PulseNet
-netlist phases latency elements output = record {
+netlist n latency elements output = record {
   names = record { model = 109 ∷ []; inputs = (97 ∷ []) ∷ ((98 ∷ []) ∷ []); outputs = (102 ∷ []) ∷ [] };
-  phases = phases;
+  phases = n;
   latency = latency;
   inputs = Some 0 ∷ (Some 1 ∷ []);
   elements = elements;

@@ -33,11 +33,11 @@ on_clock false signal = silence
 
 -- the value of a cell whose pins are true where they pulsed within the last n ticks
 abbrev pub window_value : ℕ → Cell → List Signal → Signal
-window_value phases cell pins tick = cell_value cell (map (λ pin. pulsed_within pin tick phases) pins)
+window_value n cell pins tick = cell_value cell (map (λ pin. pulsed_within pin tick n) pins)
 
 -- a clocked cell pulses only at the ticks that are its stage modulo n
 abbrev pub cell_signal : ℕ → Cell → ℕ → List Signal → Signal
-cell_signal phases cell stage pins tick = on_clock (tick % phases == stage % phases) (window_value phases cell pins) tick
+cell_signal n cell stage pins tick = on_clock (tick % n == stage % n) (window_value n cell pins) tick
 
 -- the signal of each wire, where these are the pulses on the inputs
 abbrev pub signals_of : PulseNet → List (List Bool) → Wires Signal
@@ -49,9 +49,9 @@ signal_of net pulses wire = carried silence (signals_of net pulses) wire
 
 -- the signal of an output: of its wire, never, or at each first tick of an epoch
 abbrev pub outlet_signal : ℕ → Wires Signal → Outlet → Signal
-outlet_signal phases signals Zero tick = false
-outlet_signal phases signals One tick = tick % phases == 0
-outlet_signal phases signals (Wire wire) tick = carried silence signals wire tick
+outlet_signal n signals Zero tick = false
+outlet_signal n signals One tick = tick % n == 0
+outlet_signal n signals (Wire wire) tick = carried silence signals wire tick
 
 -- no pulse on any input
 abbrev pub silent_row : List Bool → List Bool
@@ -59,8 +59,8 @@ silent_row row = replicate (length row) false
 
 -- input rows as pulses by tick: row c at tick n * c, and no pulse at the ticks between
 abbrev pub spread : ℕ → List (List Bool) → List (List Bool)
-spread phases [] = []
-spread phases (row ∷ rows) = row ∷ (replicate (phases - 1) (silent_row row) ++ spread phases rows)
+spread n [] = []
+spread n (row ∷ rows) = row ∷ (replicate (n - 1) (silent_row row) ++ spread n rows)
 
 -- the value read at an output for row c: a pulse in the n ticks before tick n * (c + E), where E is the latency
 abbrev pub value_read : PulseNet → List (List Bool) → ℕ → ℕ → Bool

@@ -87,7 +87,7 @@ end_of wires (Wire wire) = ends.From (driver_of wires wire)
 
 -- the epochs of stages, with n phases: a stage is n * epoch + phase
 abbrev pub epochs_of : ℕ → List ℕ → List ℕ
-epochs_of phases stages = map (λ stage. stage / phases) stages
+epochs_of n stages = map (λ stage. stage / n) stages
 
 -- the gates of what is known, their phases and epochs, and how many DROs were passed
 abbrev pub unfolded_from : PulseNet → Unfolding → Unfolded

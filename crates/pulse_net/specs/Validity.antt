@@ -48,38 +48,38 @@ source_stage wiring wire = used_once wire (found wiring.made wire) (is_among nat
 
 -- from the stage of a wire to that of its user are 1 to n ticks, for n phases
 abbrev pub is_gap : ℕ → ℕ → ℕ → Bool
-is_gap phases stage user = nat_lt stage user && nat_le user (stage + phases)
+is_gap n stage user = nat_lt stage user && nat_le user (stage + n)
 
 -- a wire is used, whatever its stage
 abbrev pub with_used : Wiring → ℕ → Wiring
 with_used wiring wire = record { made = wiring.made; used = wiring.used ++ wire ∷ [] }
 
--- a wire is used where its gap is one
+-- a wire is used where its gap is 1 to n ticks, for n phases
 abbrev pub used_in_time : Wiring → ℕ → ℕ → ℕ → Bool → Result Wiring Wrong
 used_in_time wiring wire stage user true = Ok (with_used wiring wire)
 used_in_time wiring wire stage user false = Err (Gap wire (pos user -ℤ pos stage))
 
 -- a wire is used at a stage
 abbrev pub use_wire : ℕ → ℕ → ℕ → Wiring → Result Wiring Wrong
-use_wire phases user wire wiring =
-    source_stage wiring wire >>= λ stage. used_in_time wiring wire stage user (is_gap phases stage user)
+use_wire n user wire wiring =
+    source_stage wiring wire >>= λ stage. used_in_time wiring wire stage user (is_gap n stage user)
 
 -- the pins of a cell are used from the left
 abbrev pub use_pins : ℕ → ℕ → List ℕ → Wiring → Result Wiring Wrong
-use_pins phases user [] wiring = Ok wiring
-use_pins phases user (pin ∷ pins) wiring = use_wire phases user pin wiring >>= use_pins phases user pins
+use_pins n user [] wiring = Ok wiring
+use_pins n user (pin ∷ pins) wiring = use_wire n user pin wiring >>= use_pins n user pins
 
 -- an element uses its pins, and then makes its outputs, both from the left
 abbrev pub wire_element : ℕ → Element → Wiring → Result Wiring Wrong
-wire_element phases (Clocked cell stage pins out) wiring = use_pins phases stage pins wiring >>= make_wire out stage
-wire_element phases (Split from left right) wiring =
+wire_element n (Clocked cell stage pins out) wiring = use_pins n stage pins wiring >>= make_wire out stage
+wire_element n (Split from left right) wiring =
     source_stage wiring from >>= λ stage. make_wire left stage (with_used wiring from) >>= make_wire right stage
 
 -- an output that isn't constant uses its wire at the stage of its reading
 abbrev pub wire_output : ℕ → ℕ → Outlet → Wiring → Result Wiring Wrong
-wire_output phases latency Zero wiring = Ok wiring
-wire_output phases latency One wiring = Ok wiring
-wire_output phases latency (Wire wire) wiring = use_wire phases (phases * latency) wire wiring
+wire_output n latency Zero wiring = Ok wiring
+wire_output n latency One wiring = Ok wiring
+wire_output n latency (Wire wire) wiring = use_wire n (n * latency) wire wiring
 
 -- inputs, elements and outputs in order, from a place on
 abbrev pub wire_inputs : ℕ → List (Option ℕ) → Wiring → Result Wiring Invalid
@@ -89,14 +89,14 @@ wire_inputs place (Some wire ∷ inputs) wiring =
     at (Input place) (make_wire wire 0 wiring) >>= wire_inputs (place + 1) inputs
 
 abbrev pub wire_elements : ℕ → ℕ → List Element → Wiring → Result Wiring Invalid
-wire_elements phases place [] wiring = Ok wiring
-wire_elements phases place (element ∷ elements) wiring =
-    at (AtElement place) (wire_element phases element wiring) >>= wire_elements phases (place + 1) elements
+wire_elements n place [] wiring = Ok wiring
+wire_elements n place (element ∷ elements) wiring =
+    at (AtElement place) (wire_element n element wiring) >>= wire_elements n (place + 1) elements
 
 abbrev pub wire_outputs : ℕ → ℕ → ℕ → List Outlet → Wiring → Result Wiring Invalid
-wire_outputs phases latency place [] wiring = Ok wiring
-wire_outputs phases latency place (outlet ∷ outlets) wiring =
-    at (Output place) (wire_output phases latency outlet wiring) >>= wire_outputs phases latency (place + 1) outlets
+wire_outputs n latency place [] wiring = Ok wiring
+wire_outputs n latency place (outlet ∷ outlets) wiring =
+    at (Output place) (wire_output n latency outlet wiring) >>= wire_outputs n latency (place + 1) outlets
 
 -- an output has a wire
 abbrev pub has_wire : Outlet → Bool

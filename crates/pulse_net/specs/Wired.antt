@@ -20,39 +20,39 @@ abbrev pub makes_of : PulseNet → List ℕ
 makes_of net = flat_map option_to_list net.inputs ++ flat_map element_makes net.elements
 
 -- with n phases a wire of this stage is read in time: its user stands 1 to n ticks later
-pub record IsInTime (phases stage user : ℕ) : Type 0 where
+pub record IsInTime (n stage user : ℕ) : Type 0 where
   pub after : stage < user
-  pub within : user ≤ stage + phases
+  pub within : user ≤ stage + n
 
 -- a wire is made so far, and its user stands 1 to n ticks later
 abbrev pub ArrivesInTime : ℕ → Wires ℕ → ℕ → ℕ → Type 0
-ArrivesInTime phases made user wire = (stage : ℕ) × (found made wire ≡ Some stage) × IsInTime phases stage user
+ArrivesInTime n made user wire = (stage : ℕ) × (found made wire ≡ Some stage) × IsInTime n stage user
 
 -- each of these pins arrives in time
 abbrev pub ArriveInTime : ℕ → Wires ℕ → ℕ → List ℕ → Type 0
-ArriveInTime phases made user [] = ⊤
-ArriveInTime phases made user (pin ∷ pins) = ArrivesInTime phases made user pin × ArriveInTime phases made user pins
+ArriveInTime n made user [] = ⊤
+ArriveInTime n made user (pin ∷ pins) = ArrivesInTime n made user pin × ArriveInTime n made user pins
 
 -- the pins of a clocked cell arrive in time, and the source of a splitter is made so far
 abbrev pub ElementInTime : ℕ → Wires ℕ → Element → Type 0
-ElementInTime phases made (Clocked cell stage pins out) = ArriveInTime phases made stage pins
-ElementInTime phases made (Split from left right) = (stage : ℕ) × (found made from ≡ Some stage)
+ElementInTime n made (Clocked cell stage pins out) = ArriveInTime n made stage pins
+ElementInTime n made (Split from left right) = (stage : ℕ) × (found made from ≡ Some stage)
 
 -- the same of all elements in order, where each finds what the earlier ones made
 abbrev pub ElementsInTime : ℕ → Wires ℕ → List Element → Type 0
-ElementsInTime phases made [] = ⊤
-ElementsInTime phases made (element ∷ elements) =
-    ElementInTime phases made element × ElementsInTime phases (made ++ element_wires 0 cell_stage made element) elements
+ElementsInTime n made [] = ⊤
+ElementsInTime n made (element ∷ elements) =
+    ElementInTime n made element × ElementsInTime n (made ++ element_wires 0 cell_stage made element) elements
 
 -- the wire of an output that isn't constant arrives in time for the reading
 abbrev pub OutletInTime : ℕ → ℕ → Wires ℕ → Outlet → Type 0
-OutletInTime phases user made Zero = ⊤
-OutletInTime phases user made One = ⊤
-OutletInTime phases user made (Wire wire) = ArrivesInTime phases made user wire
+OutletInTime n user made Zero = ⊤
+OutletInTime n user made One = ⊤
+OutletInTime n user made (Wire wire) = ArrivesInTime n made user wire
 
 abbrev pub OutletsInTime : ℕ → ℕ → Wires ℕ → List Outlet → Type 0
-OutletsInTime phases user made [] = ⊤
-OutletsInTime phases user made (outlet ∷ outlets) = OutletInTime phases user made outlet × OutletsInTime phases user made outlets
+OutletsInTime n user made [] = ⊤
+OutletsInTime n user made (outlet ∷ outlets) = OutletInTime n user made outlet × OutletsInTime n user made outlets
 
 -- A netlist is wired: each element's sources are made before it and read in time, and so are the outputs, at stage n * E;
 -- no wire is made twice, none is used twice, and each that is made is used; and a netlist that reads no wire has latency 1.

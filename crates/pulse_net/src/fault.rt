@@ -30,7 +30,7 @@ pub enum Wrong {
     MadeTwice(u32),
     /// A pin or an output used this wire already.
     UsedTwice(u32),
-    /// From the stage of this wire to the stage of its user are so many ticks, and not 1 to the number of phases.
+    /// The gap of this wire, the stage of its user minus its own, in ticks: it isn't 1 to n, for n phases.
     Gap(u32, i64),
     /// This wire was made and isn't used. It is the least one.
     Unused(u32),
@@ -65,7 +65,7 @@ impl From<AllocError> for ValidFault {
 }
 
 /// Why a step of the rules stops, wherever it stands.
-#[derive(Clone, Copy, Debug, PartialEq, Eq)]
+#[derive(Clone, Copy)]
 pub(crate) enum Stop {
     /// It breaks this rule.
     Wrong(Wrong),

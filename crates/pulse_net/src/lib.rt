@@ -15,8 +15,10 @@
 //! through DROs and splitters (`value`); they are a gate netlist (`net`), each gate's wire pulses as the gate is
 //! valued, and each output is read so (`pulses`, and the law `pulses_are_gate_values`). `unfolds_its_dros` says that it
 //! counts the DROs among the elements. `stages_follow_depths` says how far behind its driver a wire can stand: n ticks
-//! for each DRO that it passed, for n phases; and `dros_follow_depths` says that its driver has as many DROs at least.
+//! for each DRO that it passed, for n phases; and `dros_follow_depths` says that its driver has k DROs at least where the
+//! wire passed k of them.
 //! Only `valid` and `unfold` take memory.
+//! Only tested, in `trials`: that memory suffices where it is ample, up to 224,998 elements.
 //! Not promised: that a chip behaves so. There are no picoseconds, bias currents or clock skew in this model.
 //!
 //! Read `specs/Formed.antt` and `specs/Validity.antt` for the rules in order, `specs/Wires.antt` for the fold that says
@@ -24,17 +26,17 @@
 //! and `specs/Laws.antt` for what is proved; `specs/Unfolding.antt` for the gates, `specs/GatePulses.antt` for their law,
 //! `specs/Dros.antt` for the count of DROs, and `specs/Depths.antt` for depths and theirs. `proofs/Examples.antt`,
 //! `proofs/UnfoldExamples.antt` and `proofs/MajorityExamples.antt` evaluate the definitions on netlists made by hand.
-//! Central proofs: the window lemma (`proofs/Windows.antt`), and the inductions over elements, for pulses against values
-//! (`proofs/Carried.antt`), for values against gates (`proofs/Unfolds.antt`), and for stages and DROs against depths
-//! (`proofs/Depths.antt`).
+//! Each law is proved in the file of `proofs/` that is named for it, what is read at outputs beside what pulses. Central
+//! proofs: the window lemma (`proofs/PulsesAreRowValues/WindowLemma.antt`), and the inductions over elements, for pulses
+//! against values (`proofs/PulsesAreRowValues/PulseInduction.antt`), for values against gates
+//! (`proofs/PulsesAreGateValues/UnfoldingInduction.antt`), and for stages and DROs against depths
+//! (`proofs/StagesAndDrosFollowDepths.antt`).
 #![tactic(auto)]
 
 mod fault;
 mod formed;
 mod laws;
 mod net;
-#[cfg(test)]
-mod tests;
 mod trace;
 mod unfolding;
 mod validity;

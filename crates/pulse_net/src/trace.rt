@@ -1,6 +1,6 @@
 //! The elements of a netlist, traced in order: what drives each wire, and the gates so far.
 
-ghost use Rattle.std.specs.Prelude.{◌≡◌, ◌<◌, ◌^◌, ◌≤◌, ◌+◌, length, map, OnOk, IfOk};
+ghost use Rattle.std.specs.Prelude.{◌≡◌, ◌<◌, ◌^◌, length, map, OnOk, IfOk};
 ghost use Rattle.pulse_net.specs.Unfolding.{Unfolding, nothing_unfolded, driver_of, make_driven, pass_dro, add_gate, unfold_cell, unfold_element, end_of, dro_driver};
 
 use crate::net::{Element, Outlet};
@@ -32,7 +32,7 @@ impl Model for Trace {
 }
 
 impl Trace {
-    /// Nothing traced, and room for so many wires.
+    /// Nothing traced, and room for `most` wires.
     pub(crate) fn with_room(alloc: Global, most: usize) -> Result<Trace, NoMemory>
         ensures { IfOk result (λ trace. trace ≡ nothing_unfolded) }
     {

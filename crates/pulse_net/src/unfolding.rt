@@ -1,16 +1,17 @@
 //! The gates that a netlist unfolds to.
 
-ghost use Rattle.std.specs.Prelude.{◌≡◌, ◌<◌, ◌^◌, ◌≤◌, ◌+◌, length, OnOk, IfOk};
+ghost use Rattle.std.specs.Prelude.{◌≡◌, ◌<◌, ◌^◌, ◌≤◌, ◌+◌, length, map, OnOk, IfOk};
+ghost use Rattle.flow_net.specs.Levels.{phases_of};
 ghost use Rattle.flow_net.specs.TheConstants.{MAX_PHASES};
 ghost use Rattle.gate_net.specs.Net.{IsGateNet};
 ghost use Rattle.pulse_net.specs.Validity.{IsValid};
 ghost use Rattle.pulse_net.specs.GatePulses.{PulsesAreGateValues};
-ghost use Rattle.pulse_net.specs.Unfolding.{unfolded, unfolded_from, unfolding_of, unfold_inputs, unfold_elements, epochs_of};
+ghost use Rattle.pulse_net.specs.Unfolding.{unfolded, unfolded_from, unfolding_of, unfold_inputs, unfold_elements, epochs_of, end_of};
 
 use crate::net::{Element, PulseNet};
 use crate::trace::Trace;
 use flow_net::{Epochs, phases};
-use gate_net::{Driver, GateNet};
+use gate_net::{Driver, End, GateNet};
 use net_base::{List, NoMemory};
 use std::alloc::Global;
 
@@ -62,22 +63,52 @@ fn unfolded_from(alloc: Global, net: &PulseNet, trace: Trace) -> Result<Unfolded
     requires few_inputs { length net.now.inputs < 2 ^ 31 }
     ensures { IfOk result (λ u. u ≡ unfolded_from net.now trace) }
 {
-    let outputs = trace.ends_of(alloc, net.outputs.as_slice())?;
-    let phases = phases(alloc, trace.stages(), net.phases)?;
-    let epochs = epochs_of(alloc, trace.stages().as_slice(), net.phases)?;
+    let read = outputs_and_clocks_of(alloc, net, &trace)?;
     let dros = trace.dro_count();
     Ok(Unfolded {
         gates: GateNet {
             inputs: net.inputs.len() as u32,
             gates: trace.into_gates(),
-            outputs,
+            outputs: read.outputs,
         },
-        phases,
-        epochs: Epochs {
-            gates: epochs,
-            sink: net.latency,
-        },
+        phases: read.phases,
+        epochs: read.epochs,
         dros,
+    })
+}
+
+/// What is read off a trace before its gates are taken out.
+#[derive(Drop)]
+struct OutputsAndClocks {
+    outputs: List<End>,
+    phases: List<u32>,
+    epochs: Epochs,
+}
+
+/// The outputs of a trace, and the phases and epochs of its stages, with the latency as the sink's epoch. The trace is
+/// borrowed, so no exit has it to drop.
+fn outputs_and_clocks_of(
+    alloc: Global,
+    net: &PulseNet,
+    trace: &Trace,
+) -> Result<OutputsAndClocks, NoMemory>
+    requires some_phases { 1 ≤ net.now.phases }
+    requires few_phases { net.now.phases ≤ MAX_PHASES }
+    ensures outputs { IfOk result (λ read. read.outputs ≡ map (end_of trace.now.wires) net.now.outputs) }
+    ensures phases { IfOk result (λ read. read.phases ≡ phases_of net.now.phases trace.now.stages) }
+    ensures epochs { IfOk result (λ read. read.epochs ≡ record { gates = epochs_of net.now.phases trace.now.stages; sink = net.now.latency }) }
+{
+    let outputs = trace.ends_of(alloc, net.outputs.as_slice())?;
+    let phases = phases(alloc, trace.stages(), net.phases)?;
+    let gates = epochs_of(alloc, trace.stages().as_slice(), net.phases)?;
+    let epochs = Epochs {
+        gates,
+        sink: net.latency,
+    };
+    Ok(OutputsAndClocks {
+        outputs,
+        phases,
+        epochs,
     })
 }
 

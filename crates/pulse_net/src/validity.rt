@@ -1,9 +1,9 @@
 //! Whether a netlist is valid, and else the first rule that it breaks.
 
-ghost use Rattle.std.specs.Prelude.{◌≡◌, ◌<◌, ◌^◌, ◌↔◌, ◌+◌, ◌*◌, ◌||◌, ◌==◌, Ok, IsOk, IfOk, IfErr, MatchResult, length, true};
+ghost use Rattle.std.specs.Prelude.{◌≡◌, ◌<◌, ◌^◌, ◌*◌, ◌||◌, ◌==◌, Ok, IfOk, IfErr, length};
 ghost use Rattle.std.specs.List.{list_any};
 ghost use Rattle.pulse_net.specs.Formed.{IsFormed};
-ghost use Rattle.pulse_net.specs.Validity.{IsValid, at, wiring_of, wire_inputs, wire_elements, wire_outputs, check_latency, close_wires, has_wire};
+ghost use Rattle.pulse_net.specs.Validity.{IsValid, unwired, wiring_of, wire_inputs, wire_elements, wire_outputs, close_wires, has_wire};
 ghost use Rattle.net_base.specs.Answers.{Tells};
 ghost use Rattle.pulse_net.specs.Refusals.{ObeysRules, told_by, placed};
 
@@ -24,13 +24,26 @@ pub fn valid(alloc: Global, net: &PulseNet) -> Result<(), ValidFault>
     ensures broken { IfErr result (λ fault. Tells (told_by fault) (wiring_of net.now)) }
 {
     let mut wires = Wires::with_room(alloc, net.most_wires())?;
-    pass_inputs(&mut wires, net.inputs.as_slice())?;
-    pass_elements(&mut wires, net.phases, net.elements.as_slice())?;
-    pass_outputs(&mut wires, net.phases, net.latency, net.outputs.as_slice())?;
+    pass(&mut wires, net)
+}
+
+/// All rules in order, where no wire is made or used yet. The wires are borrowed, so no exit has them to drop.
+fn pass(wires: &mut Wires, net: &PulseNet) -> Result<(), ValidFault>
+    requires unwired { wires.old ≡ unwired }
+    requires formed { IsFormed net.now }
+    requires few_inputs { length net.now.inputs < 2 ^ 31 }
+    requires few_elements { length net.now.elements < 2 ^ 31 }
+    requires few_outputs { length net.now.outputs < 2 ^ 31 }
+    ensures valid { IfOk result (λ _. IsValid net.now) }
+    ensures broken { IfErr result (λ fault. Tells (told_by fault) (wiring_of net.now)) }
+{
+    pass_inputs(wires, net.inputs.as_slice())?;
+    pass_elements(wires, net.phases, net.elements.as_slice())?;
+    pass_outputs(wires, net.phases, net.latency, net.outputs.as_slice())?;
     if !keeps_latency(net.latency, net.outputs.as_slice()) {
         return Err(broken(Place::Latency, Wrong::NoWires(net.latency)));
     }
-    close(&wires)
+    close(wires)
 }
 
 /// Each used input makes its wire.

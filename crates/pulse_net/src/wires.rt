@@ -29,7 +29,7 @@ impl Model for Wires {
 }
 
 impl Wires {
-    /// No wires, and room for so many.
+    /// No wires, and room for `most` of them.
     pub(crate) fn with_room(alloc: Global, most: usize) -> Result<Wires, NoMemory>
         ensures { IfOk result (λ wires. wires ≡ unwired) }
     {

@@ -1,9 +1,9 @@
 -- The note of what ended a run before anything was written.
-use Rattle.std.proofs.Common.{◌≡◌, ℕ, List, Option, Result, Err, Some, None, refl, sym, ap, subst}
+use Rattle.std.proofs.Common.{◌≡◌, ℕ, List, Option, Err, Some, None, refl, sym, ap}
 use Rattle.rsfq_main.specs.declared.fault.Fault.{Fault}
 use Rattle.rsfq_main.specs.declared.fault.Fault.TheVariants as faults
 use Rattle.rsfq_main.specs.declared.words.Command.{Command}
-use Rattle.rsfq_main.specs.Faults.{fault_status, fault_line, fault_of}
+use Rattle.rsfq_main.specs.Faults.{fault_status, fault_line}
 use Rattle.rsfq_main.specs.Outcomes.{IsOutcome}
 use Rattle.rsfq_main.specs.Run.{IsNoteOf}
 

@@ -1,5 +1,5 @@
 -- What each command reads, writes and answers. A new command is a new case of each definition here; the clauses of `run` stay.
-use Rattle.std.specs.Prelude.{ℕ, Bool, true, false, ◌<◌, List, length, Option, Some, None, Result, Ok, Err, if◌then◌else◌, nat_lt}
+use Rattle.std.specs.Prelude.{ℕ, Bool, false, List, length, Option, Some, None, Result, Ok, Err, if◌then◌else◌, nat_lt}
 use Rattle.rsfq_main.specs.declared.design.Design.{Design}
 use Rattle.rsfq_main.specs.declared.words.Command.{Command}
 use Rattle.rsfq_main.specs.declared.words.Command.TheVariants.{Map}

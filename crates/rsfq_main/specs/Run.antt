@@ -4,7 +4,7 @@ use Rattle.io_edge.specs.Counts.{Rose}
 use Rattle.io_edge.specs.Sink.{Gains}
 use Rattle.rsfq_main.specs.declared.words.Command.{Command}
 use Rattle.rsfq_main.specs.declared.status.Status.{Status}
-use Rattle.rsfq_main.specs.declared.status.Status.TheVariants.{Done, Refused, Usage, ReadFault, WriteFault, NoMemory, No}
+use Rattle.rsfq_main.specs.declared.status.Status.TheVariants.{Done, Refused, Usage, ReadFault, WriteFault, NoMemory}
 use Rattle.rsfq_main.specs.declared.fault.Refusal.{Refusal}
 use Rattle.rsfq_main.specs.declared.fault.Fault.TheVariants as faults
 use Rattle.rsfq_main.specs.Commands.{limit_of, output_of, IsQuestion}
@@ -74,6 +74,12 @@ abbrev pub IsUnwritten : Status → Type 0
 IsUnwritten Done = ⊥
 IsUnwritten WriteFault = ⊥
 IsUnwritten status = Unit {0}
+
+-- what a sink has taken of these bytes: all of them on Done, and a proper front of them where a write failed
+abbrev pub TakesOutput : Status → List ℕ → Option (List ℕ) → Option (List ℕ) → Type 0
+TakesOutput Done bytes before after = Gains before after bytes
+TakesOutput WriteFault bytes before after = (k : ℕ) × (k < length bytes) × Gains before after (take k bytes)
+TakesOutput status bytes before after = ⊥
 
 -- what a sink has taken of an output: all of it on Done, and a proper front of it where a write failed
 abbrev pub Writes : Status → Option (List ℕ) → Option (List ℕ) → Result (List ℕ) Refusal → Type 0

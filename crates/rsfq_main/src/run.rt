@@ -3,11 +3,12 @@
 ghost use Rattle.std.specs.Prelude.{◌≡◌, ◌≢◌, ◌↔◌, None, List, ℕ, map, string_bytes, IsOk};
 ghost use Rattle.io_edge.specs.Counts.{AreLater, Rose};
 ghost use Rattle.io_edge.specs.WriteAll.{FailedOrStalled};
+ghost use Rattle.rsfq_main.specs.declared.fault.Fault.TheVariants.{Write};
 ghost use Rattle.rsfq_main.specs.Words.{command_of as command_in};
-ghost use Rattle.rsfq_main.specs.Commands.{limit_of, output_of, IsMeant};
+ghost use Rattle.rsfq_main.specs.Commands.{output_of, IsMeant};
 ghost use Rattle.rsfq_main.specs.Faults.{outcome_status, fault_status, fault_line};
 ghost use Rattle.rsfq_main.specs.Outcomes.{IsInput, IsOutcome, OverText};
-ghost use Rattle.rsfq_main.specs.Run.{ComesExactly, IsDoneOrNoMemory, Asks, LeavesSource, read_limit, IsUnwritten, Writes, WritesMeaning, Appends, IsNoteOf, TakesLine};
+ghost use Rattle.rsfq_main.specs.Run.{ComesExactly, IsDoneOrNoMemory, Asks, LeavesSource, read_limit, IsUnwritten, TakesOutput, Writes, WritesMeaning, Appends, IsNoteOf, TakesLine};
 
 use crate::fault::Fault;
 use crate::status::Status;
@@ -58,6 +59,22 @@ fn tell<N: Sink>(notes: &mut N, fault: &Fault) -> Status
     fault.status()
 }
 
+// Writes the output, notes it where that failed, and answers the status.
+fn write<K: Sink, N: Sink>(sink: &mut K, notes: &mut N, output: &[u8]) -> Status
+    ensures taken { TakesOutput result output.now (K.taken sink.old) (K.taken sink.new) }
+    ensures write_fault { result ≡ Status.WriteFault → FailedOrStalled (K.counts sink.old) (K.counts sink.new) }
+    ensures sink_counts { AreLater (K.counts sink.old) (K.counts sink.new) }
+    ensures silent { result ≡ Status.Done → notes.new ≡ notes.old }
+    ensures told { result ≡ Status.WriteFault → TakesLine (N.taken notes.old) (N.taken notes.new) (fault_line Write)
+        (FailedOrStalled (N.counts notes.old) (N.counts notes.new)) }
+    ensures notes_counts { AreLater (N.counts notes.old) (N.counts notes.new) }
+{
+    match write_all_of(sink, output) {
+        Ok(()) => Status::Done,
+        Err(_) => tell(notes, &Fault::Write),
+    }
+}
+
 /// Does all that the program does: reads the command from the words, the text from the source, writes the output to
 /// the sink and, where the status isn't Done, one line to the notes.
 ///
@@ -106,12 +123,8 @@ pub fn run<S: Source, K: Sink, N: Sink>(
         × TakesLine (N.taken notes.old) (N.taken notes.new) line (FailedOrStalled (N.counts notes.old) (N.counts notes.new)) }
     ensures notes_counts { AreLater (N.counts notes.old) (N.counts notes.new) }
 {
-    let output = match output(alloc, words, source) {
-        Ok(output) => output,
-        Err(fault) => return tell(notes, &fault),
-    };
-    match write_all_of(sink, output.as_slice()) {
-        Ok(()) => Status::Done,
-        Err(_) => tell(notes, &Fault::Write),
+    match output(alloc, words, source) {
+        Ok(output) => write(sink, notes, output.as_slice()),
+        Err(fault) => tell(notes, &fault),
     }
 }

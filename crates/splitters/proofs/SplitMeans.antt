@@ -10,8 +10,8 @@ use Rattle.pulse_net.specs.Unfolding.{unfolded}
 use Rattle.dro_chains.specs.declared.chain.Chained.{Chained}
 use Rattle.splitters.specs.Elements.{gate_pins, inputs_of, outlets, layout_of, elements_of}
 use Rattle.splitters.specs.Laws.{KeepsTime, HasNames, UnfoldsBack}
-use Rattle.splitters.proofs.WiredWhole.{layout_is_valid}
-use Rattle.splitters.proofs.UnfoldsWhole.{chains_unfold}
+use Rattle.splitters.proofs.valid.Whole.{layout_is_valid}
+use Rattle.splitters.proofs.unfolds.Whole.{chains_unfold}
 
 -- the netlist of these parts
 abbrev net_with : Chained → Names → List (Option ℕ) → List Element → List Outlet → PulseNet

@@ -37,7 +37,7 @@ with_cell cell stage pins layout = record layout {
   elements = layout.elements ++ Clocked cell stage pins layout.next ∷ [];
 }
 
--- a wire is spread over so many targets
+-- a wire is spread over its targets, `targets` of them
 abbrev pub with_spread : ℕ → ℕ → Layout → Layout
 with_spread wire targets layout = record layout {
   next = layout.next + 2 * (targets - 1);
@@ -72,7 +72,7 @@ with_chain n stage wire (pins ∷ []) layout = with_last wire pins layout
 with_chain n stage wire (pins ∷ (more ∷ taps)) layout =
     with_chain n (stage + n) (with_tap wire pins layout).next (more ∷ taps) (with_dro (stage + n) wire pins layout)
 
--- the wires of so many inputs from a number on: the used ones get the next wires in order
+-- the wires of inputs from a number on, `more` of them: the used ones get the next wires in order
 abbrev pub input_wires : Chained → ℕ → ℕ → ℕ → List (Option ℕ)
 input_wires chained input next zero = []
 input_wires chained input next (suc more) =

@@ -7,9 +7,9 @@ use Rattle.pulse_net.specs.declared.net.Element.TheVariants.{Split}
 abbrev pub first_half : ℕ → ℕ
 first_half targets = (targets + 1) / 2
 
--- The splitters that spread a wire over so many targets. Over one target it is joined. Over two or more a splitter makes
--- the next two wires; the left one is spread over the first half, and then the right one over the rest. The first number
--- bounds the depth.
+-- The splitters that spread a wire over its targets, `targets` of them. Over one target it is joined. Over two or more a
+-- splitter makes the next two wires; the left one is spread over the first half, and then the right one over the rest. The
+-- first number bounds the depth.
 abbrev pub tree_lines : ℕ → ℕ → ℕ → ℕ → List Element
 tree_lines zero wire next targets = []
 tree_lines (suc depth) wire next zero = []

@@ -24,7 +24,7 @@ tap_count needs driver pin [] = 0
 tap_count needs driver pin (other ∷ drivers) =
     max (cond (same_driver driver other) (slice_index needs pin + 1) 0) (tap_count needs driver (pin + 1) drivers)
 
--- the pins of so many taps, from a need on
+-- the pins of taps from a need on, `more` of them
 abbrev pub taps_from : List ℕ → List Driver → Driver → ℕ → ℕ → List (List ℕ)
 taps_from needs drivers driver need zero = []
 taps_from needs drivers driver need (suc more) = takers needs driver need 0 drivers ∷ taps_from needs drivers driver (need + 1) more
@@ -43,12 +43,12 @@ StagesFit chained =
     (pin : ℕ) (d : Driver) → pin < length (pin_drivers chained.gates)
     → entry_of chained.stages (slice_index_or (pin_drivers chained.gates) pin d) + chained.n * slice_index chained.needs pin < 2 ^ 32
 
--- so many inputs from one on have so many DROs in their chains, one for each tap behind the first
+-- how many DROs the chains of inputs have, from one on and `more` of them: one for each tap behind the first
 abbrev pub input_dros : Chained → ℕ → ℕ → ℕ
 input_dros chained input zero = 0
 input_dros chained input (suc more) = length (taps_of chained (Input input)) - 1 + input_dros chained (input + 1) more
 
--- and so many have gates
+-- the same of gates
 abbrev pub gate_dros : Chained → ℕ → ℕ → ℕ
 gate_dros chained gate zero = 0
 gate_dros chained gate (suc more) = length (taps_of chained (Gate gate)) - 1 + gate_dros chained (gate + 1) more

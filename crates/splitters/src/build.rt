@@ -16,7 +16,7 @@ use crate::taps::Taps;
 use dro_chains::Chained;
 use gate_net::{Driver, End, GateRow, pin_drivers};
 use net_base::{List, NoMemory};
-use pulse_net::{Names, Outlet, PulseNet};
+use pulse_net::{Element, Names, Outlet, PulseNet};
 use std::alloc::Global;
 
 // Whether an input is used: it has a tap.
@@ -163,6 +163,50 @@ fn output_wires(alloc: Global, chained: &Chained, taken: &[u32]) -> Result<Vec<O
     outlets(alloc, taken, first, chained.gates.outputs.as_slice())
 }
 
+// What a netlist has beside its names, phases and latency: the wires of inputs, the elements, and what stands at outputs.
+#[derive(Drop)]
+struct NetParts {
+    inputs: List<Option<u32>>,
+    elements: List<Element>,
+    outputs: List<Outlet>,
+}
+
+// The parts, by the table of the taps.
+fn tapped_parts(
+    alloc: Global,
+    chained: &Chained,
+    table: &[Taps],
+    pins: usize,
+) -> Result<NetParts, NoMemory>
+    requires fits { CanSplit chained.now }
+    requires tapped { IsTapped chained.now table.now }
+    requires pins { pins ≡ length (pin_drivers chained.now.gates) }
+    ensures inputs { IfOk result (λ parts. parts.inputs ≡ inputs_of chained.now) }
+    ensures elements { IfOk result (λ parts. parts.elements ≡ (layout_of chained.now).elements) }
+    ensures outputs { IfOk result (λ parts. parts.outputs ≡ outlets (layout_of chained.now).taken (gate_pins chained.now.gates.gates) chained.now.gates.outputs) }
+{
+    let inputs = input_wires(alloc, chained, table)?;
+    let layout = lay_out(alloc, chained, table, inputs.as_slice(), pins)?;
+    let outputs = output_wires(alloc, chained, layout.taken())?;
+    Ok(NetParts {
+        inputs: List::from_vec(inputs),
+        elements: layout.into_elements(),
+        outputs: List::from_vec(outputs),
+    })
+}
+
+// The parts of the netlist of gates with shared chains.
+fn net_parts(alloc: Global, chained: &Chained) -> Result<NetParts, NoMemory>
+    requires fits { CanSplit chained.now }
+    ensures inputs { IfOk result (λ parts. parts.inputs ≡ inputs_of chained.now) }
+    ensures elements { IfOk result (λ parts. parts.elements ≡ (layout_of chained.now).elements) }
+    ensures outputs { IfOk result (λ parts. parts.outputs ≡ outlets (layout_of chained.now).taken (gate_pins chained.now.gates.gates) chained.now.gates.outputs) }
+{
+    let drivers = pin_drivers(alloc, &chained.gates)?;
+    let table = tap_table(alloc, chained, drivers.as_slice())?;
+    tapped_parts(alloc, chained, table.as_slice(), drivers.len())
+}
+
 /// The netlist of gates with shared chains: splitter trees, DROs and wires. There is a name for each input and each
 /// output. It is valid where the chains keep time, and chains that mean a netlist give back the gates, phases and epochs
 /// that they were made for. `NoMemory` is the only error: the numbers of wires always fit.
@@ -173,23 +217,13 @@ pub fn split(alloc: Global, chained: Chained, names: Names) -> Result<PulseNet, 
     ensures valid { KeepsTime chained → IfOk result IsValid }
     ensures unfolds { IfOk result (UnfoldsBack chained) }
 {
-    let drivers = pin_drivers(alloc, &chained.gates)?;
-    let table = tap_table(alloc, &chained, drivers.as_slice())?;
-    let inputs = input_wires(alloc, &chained, table.as_slice())?;
-    let layout = lay_out(
-        alloc,
-        &chained,
-        table.as_slice(),
-        inputs.as_slice(),
-        drivers.len(),
-    )?;
-    let outputs = output_wires(alloc, &chained, layout.taken())?;
+    let parts = net_parts(alloc, &chained)?;
     Ok(PulseNet {
         names,
         phases: chained.n,
         latency: chained.latency,
-        inputs: List::from_vec(inputs),
-        elements: layout.into_elements(),
-        outputs: List::from_vec(outputs),
+        inputs: parts.inputs,
+        elements: parts.elements,
+        outputs: parts.outputs,
     })
 }

@@ -1,11 +1,11 @@
 //! The drivers in order: the used inputs, then the gates.
 
-ghost use Rattle.std.specs.Prelude.{◌≡◌, ◌<◌, ◌≤◌, ◌+◌, ◌*◌, ◌-◌, ◌^◌, IfOk, OnOk, length};
+ghost use Rattle.std.specs.Prelude.{◌≡◌, ◌<◌, ◌≤◌, ◌+◌, ◌*◌, ◌-◌, ◌^◌, OnOk, length};
 ghost use Rattle.gate_net.specs.Net.{IsThere, pin_drivers};
 ghost use Rattle.gate_net.specs.Entries.{entry_of};
 ghost use Rattle.splitters.specs.Taps.{taps_of};
 ghost use Rattle.splitters.specs.Table.{IsTapped};
-ghost use Rattle.splitters.specs.Elements.{with_chain, with_gate, with_gates, with_inputs, gate_pins};
+ghost use Rattle.splitters.specs.Elements.{with_chain, with_gate, with_gates, with_inputs};
 
 use crate::layout::Layout;
 use crate::table::slot;

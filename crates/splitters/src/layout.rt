@@ -1,8 +1,8 @@
 //! What is laid out so far: elements, and the wires of pins.
 
-ghost use Rattle.std.specs.Prelude.{◌≡◌, ◌<◌, ◌≤◌, ◌+◌, ◌*◌, ◌-◌, ◌^◌, ◌∷◌, [], All, IfOk, OnOk, length, slice_index, take, drop, replicate};
+ghost use Rattle.std.specs.Prelude.{◌≡◌, ◌<◌, ◌≤◌, ◌+◌, ◌*◌, ◌-◌, ◌^◌, [], All, IfOk, OnOk, length, take, drop, replicate};
 ghost use Rattle.splitters.specs.Spread.{spread_wires};
-ghost use Rattle.splitters.specs.Elements.{Layout, take_wires, with_cell, with_spread, with_taken, with_last, with_tap, with_dro, with_chain};
+ghost use Rattle.splitters.specs.Elements.{Layout, take_wires, with_cell, with_spread, with_last, with_tap, with_dro, with_chain};
 
 use crate::spread::spread;
 use cell_lib::Cell;
@@ -68,7 +68,7 @@ impl Layout {
         Ok(out)
     }
 
-    /// The wires of so many pins from one on.
+    /// The wires of `count` pins from one on.
     pub(crate) fn wires(
         &self,
         alloc: Global,

@@ -15,14 +15,15 @@
 //! (`chains_are_valid`). It has as many DROs as the chain lengths sum up to, the DRO count of the epochs
 //! (`dros_are_the_count`), and it unfolds to the gates, phases and epochs that the chains were made for (`unfolds`,
 //! `chains_unfold`).
+//! Only tested, in `trials` and by runs of the program: that memory suffices where it is ample, up to 224,998 elements.
 //! Not promised: that `NoMemory` comes only where memory is short, and how long `split` takes. It doesn't read the lengths
 //! of chains, since a chain is as long as the largest need of its pins.
 //!
 //! Read `specs/Spread.antt` for the tree, `specs/Taps.antt` for who takes from which DRO, and `specs/Elements.antt` from
-//! `elements_of` down; `proofs/Examples.antt` evaluates them on small netlists. Central proofs: validity by a frontier of
-//! waiting wires (`proofs/WiredWhole.antt`), unfolding by the same induction with drivers (`proofs/UnfoldsWhole.antt`), the
-//! count of DROs by the law on driver numbers (`proofs/WiredCount.antt`), and that the wires are no more than their count
-//! (`proofs/LayoutCount.antt`).
+//! `elements_of` down; `proofs/Examples.antt` evaluates them on small netlists. Central proofs: validity by a frontier, how
+//! often each wire waits for a user (`proofs/valid/`, from `Frontier.antt` to `Whole.antt`), unfolding by the same induction
+//! with drivers (`proofs/unfolds/Whole.antt`), the count of DROs by the law on driver numbers (`proofs/dros/Count.antt`), and
+//! that the wires are no more than their count (`proofs/wires/Count.antt`).
 #![tactic(auto)]
 
 mod build;
@@ -33,8 +34,6 @@ mod layout;
 mod spread;
 mod table;
 mod taps;
-#[cfg(test)]
-mod tests;
 
 pub use build::split;
 pub use fits::can_split;

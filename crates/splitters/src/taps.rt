@@ -1,6 +1,6 @@
 //! The taps of one driver.
 
-ghost use Rattle.std.specs.Prelude.{◌≡◌, ◌↔◌, IsTrue, ◌+◌, ◌++◌, ◌∷◌, ◌==◌, [], ℕ, cond, max, length, OnOk, slice_index_or};
+ghost use Rattle.std.specs.Prelude.{◌≡◌, ◌↔◌, IsTrue, ◌+◌, ◌++◌, ◌∷◌, ◌==◌, [], ℕ, cond, max, length, OnOk};
 ghost use Rattle.splitters.specs.Table.{tap_at};
 
 use net_base::{List, NoMemory};

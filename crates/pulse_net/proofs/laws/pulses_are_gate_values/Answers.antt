@@ -1,4 +1,4 @@
-use Rattle.pulse_net.proofs.GateLaw.{pulses_are_gate_values}
+use Rattle.pulse_net.proofs.PulsesAreGateValues.{pulses_are_gate_values}
 use Rattle.pulse_net.proofs.laws.pulses_are_gate_values.Goals as goal
 
 pub returns : goal.returns

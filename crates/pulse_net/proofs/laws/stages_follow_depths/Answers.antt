@@ -1,4 +1,4 @@
-use Rattle.pulse_net.proofs.Depths.{stages_follow_depths}
+use Rattle.pulse_net.proofs.StagesAndDrosFollowDepths.{stages_follow_depths}
 use Rattle.pulse_net.proofs.laws.stages_follow_depths.Goals as goal
 
 pub returns : goal.returns

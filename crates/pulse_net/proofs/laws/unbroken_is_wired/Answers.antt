@@ -1,4 +1,4 @@
-use Rattle.pulse_net.proofs.Unbroken.{unbroken_is_wired}
+use Rattle.pulse_net.proofs.UnbrokenIsWired.{unbroken_is_wired}
 use Rattle.pulse_net.proofs.laws.unbroken_is_wired.Goals as goal
 
 pub returns : goal.returns

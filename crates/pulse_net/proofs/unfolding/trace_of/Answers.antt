@@ -1,5 +1,5 @@
 use Rattle.std.proofs.Common.{◌≡◌, length, ap, arith}
-use Rattle.pulse_net.proofs.Driven.{gates-inputs_is}
+use Rattle.pulse_net.proofs.UnfoldedGateCount.{gates-inputs_is}
 use Rattle.pulse_net.proofs.unfolding.trace_of.Goals as goal
 
 pub pass_elements-requires : goal.pass_elements-requires

@@ -1,4 +1,4 @@
-use Rattle.pulse_net.proofs.GateLaw.{answer-value, answer-is_gate_net, answer-pulses}
+use Rattle.pulse_net.proofs.PulsesAreGateValues.{answer-value, answer-is_gate_net, answer-pulses}
 use Rattle.pulse_net.proofs.unfolding.unfold.Goals as goal
 
 pub returns-clause-value : goal.returns-clause-value

@@ -1,4 +1,4 @@
-use Rattle.std.proofs.Common.{arith, refl}
+use Rattle.std.proofs.Common.{refl}
 use Rattle.rsfq_main.proofs.words.command_of.Goals as goal
 
 -- the number that the word gives is from 1 to the most

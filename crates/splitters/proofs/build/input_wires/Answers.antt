@@ -1,6 +1,6 @@
 use Rattle.std.proofs.Common.{◌∷◌, [], ◌∙◌, Some, None, cond, ap, arith, length, length-append}
 use Rattle.net_base.proofs.CallerLemmas.{bit-le}
-use Rattle.splitters.proofs.PinLemmas.{input_wires-pushed}
+use Rattle.splitters.proofs.wires.Inputs.{input_wires-pushed}
 use Rattle.splitters.proofs.build.input_wires.Goals as goal
 
 pub loop-i-preserved : goal.loop-i-preserved

@@ -2,7 +2,8 @@ use Rattle.std.proofs.Common.{refl, sym, length, ◌∙◌}
 use Rattle.gate_net.specs.declared.row.Driver.TheVariants.{Input}
 use Rattle.gate_net.specs.Net.{pin_drivers}
 use Rattle.flow_net.proofs.CallerLemmas.{is_used-uses_of}
-use Rattle.splitters.proofs.TapLemmas.{taps_at-read, is_used-taps}
+use Rattle.splitters.proofs.tapped.Taps.{is_used-taps}
+use Rattle.splitters.proofs.tapped.Table.{taps_at-read}
 use Rattle.splitters.proofs.build.is_used.Goals as goal
 
 pub returns : goal.returns

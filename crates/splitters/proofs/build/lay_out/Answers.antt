@@ -1,6 +1,6 @@
 use Rattle.std.proofs.Common.{◌≡◌, ◌^◌, ◌∙◌, [], replicate, ap}
 use Rattle.splitters.specs.Elements.{wire_count, empty_layout}
-use Rattle.splitters.proofs.LayoutGrows.{inputs-room}
+use Rattle.splitters.proofs.wires.Growth.{inputs-room}
 use Rattle.splitters.proofs.build.lay_out.Goals as goal
 
 pub lay_inputs-requires-clause-room : goal.lay_inputs-requires-clause-room

@@ -1,6 +1,6 @@
 use Rattle.std.proofs.Common.{ap, arith}
 use Rattle.splitters.specs.Elements.{gate_pins}
-use Rattle.splitters.proofs.LayoutLemmas.{gate_pins-le}
+use Rattle.splitters.proofs.wires.Steps.{gate_pins-le}
 use Rattle.splitters.proofs.build.output_wires.Goals as goal
 
 pub gate_pins-first-requires : goal.gate_pins-first-requires

@@ -2,7 +2,8 @@ use Rattle.std.proofs.Common.{◌≡◌, ◌∙◌, ℕ, List, length, sym, subs
 use Rattle.gate_net.specs.Net.{pin_drivers}
 use Rattle.gate_net.specs.Entries.{entry_of}
 use Rattle.splitters.specs.Taps.{tap_count}
-use Rattle.splitters.proofs.TapLemmas.{AreBelow, taps_at-below, taps_at-read, length-taps_at, chain-fits}
+use Rattle.splitters.proofs.tapped.Taps.{AreBelow, taps_at-below, length-taps_at, chain-fits}
+use Rattle.splitters.proofs.tapped.Table.{taps_at-read}
 use Rattle.splitters.proofs.drivers.lay_chain.Goals as goal
 
 pub lay_chain-requires-clause-below : goal.lay_chain-requires-clause-below

@@ -1,5 +1,5 @@
 use Rattle.std.proofs.Common.{arith}
-use Rattle.splitters.proofs.LayoutGrows.{gate-grows}
+use Rattle.splitters.proofs.wires.Growth.{gate-grows}
 use Rattle.splitters.proofs.drivers.lay_gate.Goals as goal
 
 pub cell-requires : goal.cell-requires

@@ -1,8 +1,8 @@
 use Rattle.std.proofs.Common.{◌≡◌, ◌<◌, ◌+◌, ◌^◌, ◌∙◌, List, length, get_or, refl, ap, sym, subst, arith}
 use Rattle.gate_net.specs.declared.row.GateRow.{GateRow}
 use Rattle.splitters.specs.Elements.{with_gate, with_gates}
-use Rattle.splitters.proofs.LayoutGrows.{gate-room}
-use Rattle.splitters.proofs.LayoutLemmas.{gate_pins-le}
+use Rattle.splitters.proofs.wires.Growth.{gate-room}
+use Rattle.splitters.proofs.wires.Steps.{gate_pins-le}
 use Rattle.splitters.proofs.drivers.lay_gates.Goals as goal
 
 pub loop-gate-init : goal.loop-gate-init

@@ -1,6 +1,6 @@
 use Rattle.std.proofs.Common.{None, ◌^◌}
 use Rattle.splitters.specs.Elements.{with_inputs}
-use Rattle.splitters.proofs.LayoutGrows.{input-room}
+use Rattle.splitters.proofs.wires.Growth.{input-room}
 use Rattle.splitters.proofs.drivers.lay_inputs.Goals as goal
 
 pub lay_chain-requires-clause-room : goal.lay_chain-requires-clause-room

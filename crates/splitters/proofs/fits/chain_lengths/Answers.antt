@@ -1,7 +1,7 @@
 use Rattle.std.proofs.Common.{◌∙◌}
 use Rattle.std.proofs.lemmas.List.{length-set}
 use Rattle.gate_net.specs.declared.row.Driver.TheVariants.{Input}
-use Rattle.splitters.proofs.ChainSums.{Lengthens-pin}
+use Rattle.splitters.proofs.dros.Lengths.{Lengthens-pin}
 use Rattle.splitters.proofs.fits.chain_lengths.Goals as goal
 
 pub loop-pin-preserved : goal.loop-pin-preserved

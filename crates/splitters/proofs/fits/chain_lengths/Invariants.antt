@@ -1,5 +1,5 @@
 use Rattle.std.proofs.Common.{◌≡◌, ◌+◌, length, drop}
-use Rattle.splitters.proofs.ChainSums.{Lengthens}
+use Rattle.splitters.proofs.dros.Lengths.{Lengthens}
 use Rattle.splitters.proofs.fits.chain_lengths.Given as goal
 
 abbrev pub invariant-loop-pin : goal.invariant-loop-pin

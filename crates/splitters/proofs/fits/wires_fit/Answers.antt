@@ -4,7 +4,7 @@ use Rattle.gate_net.specs.Net.{IsThere, pin_drivers}
 use Rattle.splitters.specs.Taps.{chain_dros}
 use Rattle.splitters.specs.Table.{HasLengths}
 use Rattle.gate_net.proofs.CallerLemmas.{pin_drivers-there}
-use Rattle.splitters.proofs.ChainSums.{lengths-sum}
+use Rattle.splitters.proofs.dros.Lengths.{lengths-sum}
 use Rattle.splitters.proofs.fits.wires_fit.Goals as goal
 
 pub chain_lengths-requires-clause-there : goal.chain_lengths-requires-clause-there

@@ -1,4 +1,4 @@
-use Rattle.splitters.proofs.ChainsFit.{chains_can_be_split}
+use Rattle.splitters.proofs.ChainsCanBeSplit.{chains_can_be_split}
 use Rattle.splitters.proofs.laws.chains_can_be_split.Goals as goal
 
 pub returns : goal.returns

@@ -1,4 +1,4 @@
-use Rattle.splitters.proofs.UnfoldsWhole.{chains_unfold}
+use Rattle.splitters.proofs.unfolds.Whole.{chains_unfold}
 use Rattle.splitters.proofs.laws.chains_unfold.Goals as goal
 
 pub returns : goal.returns

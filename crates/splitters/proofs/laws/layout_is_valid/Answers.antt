@@ -1,4 +1,4 @@
-use Rattle.splitters.proofs.WiredWhole.{layout_is_valid}
+use Rattle.splitters.proofs.valid.Whole.{layout_is_valid}
 use Rattle.splitters.proofs.laws.layout_is_valid.Goals as goal
 
 pub returns : goal.returns

@@ -1,5 +1,5 @@
 use Rattle.std.proofs.Common.{◌∙◌}
-use Rattle.splitters.proofs.TapLemmas.{replicate-next}
+use Rattle.splitters.proofs.tapped.Table.{replicate-next}
 use Rattle.splitters.proofs.table.empty_table.Goals as goal
 
 pub loop-preserved : goal.loop-preserved

@@ -1,7 +1,7 @@
 use Rattle.std.proofs.Common.{◌∙◌, subst}
 use Rattle.std.proofs.lemmas.List.{length-set, drop_all}
 use Rattle.gate_net.specs.declared.row.Driver.TheVariants.{Input}
-use Rattle.splitters.proofs.TapLemmas.{Gathers, Gathers-pin, HasTaps-gathered}
+use Rattle.splitters.proofs.tapped.Table.{Gathers, Gathers-pin, HasTaps-gathered}
 use Rattle.splitters.proofs.table.gather.Goals as goal
 
 pub loop-pin-preserved : goal.loop-pin-preserved

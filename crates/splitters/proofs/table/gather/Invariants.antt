@@ -1,5 +1,5 @@
 use Rattle.std.proofs.Common.{◌≡◌, ◌+◌, length, drop}
-use Rattle.splitters.proofs.TapLemmas.{Gathers}
+use Rattle.splitters.proofs.tapped.Table.{Gathers}
 use Rattle.splitters.proofs.table.gather.Given as goal
 
 abbrev pub invariant-loop-pin : goal.invariant-loop-pin

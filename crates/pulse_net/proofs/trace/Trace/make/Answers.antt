@@ -1,6 +1,6 @@
 use Rattle.std.proofs.Common.{refl, sym, ap, ◌∙◌}
 use Rattle.pulse_net.specs.Unfolding.{make_driven}
-use Rattle.pulse_net.proofs.Tables.{make_driven-inserted}
+use Rattle.pulse_net.proofs.InsertedWires.{make_driven-inserted}
 use Rattle.pulse_net.proofs.trace.Trace.make.Goals as goal
 
 pub returns : goal.returns

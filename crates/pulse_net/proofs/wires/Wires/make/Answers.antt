@@ -1,6 +1,6 @@
 use Rattle.std.proofs.Common.{sym, ap, ◌∙◌}
 use Rattle.pulse_net.specs.Validity.{make_wire}
-use Rattle.pulse_net.proofs.Tables.{make_wire-inserted}
+use Rattle.pulse_net.proofs.InsertedWires.{make_wire-inserted}
 use Rattle.pulse_net.proofs.wires.Wires.make.Goals as goal
 
 pub returns : goal.returns

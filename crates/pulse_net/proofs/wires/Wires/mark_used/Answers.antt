@@ -1,7 +1,7 @@
 use Rattle.std.proofs.Common.{ap, ◌∙◌, nat_eq}
 use Rattle.net_base.specs.Keys.{is_among}
 use Rattle.pulse_net.specs.Validity.{Wiring, with_used}
-use Rattle.pulse_net.proofs.Tables.{with_used-inserted}
+use Rattle.pulse_net.proofs.InsertedWires.{with_used-inserted}
 use Rattle.pulse_net.proofs.wires.Wires.mark_used.Goals as goal
 
 pub returns : goal.returns

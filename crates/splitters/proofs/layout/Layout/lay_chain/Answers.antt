@@ -1,6 +1,6 @@
 use Rattle.std.proofs.Common.{◌^◌, ◌∙◌, length, ap, arith}
 use Rattle.splitters.specs.Elements.{with_chain}
-use Rattle.splitters.proofs.LayoutGrows.{dro-room}
+use Rattle.splitters.proofs.wires.Growth.{dro-room}
 use Rattle.splitters.proofs.layout.Layout.lay_chain.Goals as goal
 
 pub lay_dro-requires-clause-room : goal.lay_dro-requires-clause-room

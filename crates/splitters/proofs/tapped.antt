@@ -1,0 +1,4 @@
+pub mod Taps
+pub mod Table
+pub mod Takers
+pub mod PinCount

@@ -1,0 +1,4 @@
+pub mod Steps
+pub mod Inputs
+pub mod Growth
+pub mod Count

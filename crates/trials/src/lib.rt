@@ -1,0 +1,34 @@
+//! Trials: what neither a contract nor a run of the program shows of the crates below.
+//!
+//! A contract can't say that memory is left, and no run of the program makes each public call, has a stream that fails at
+//! a chosen place, or lays out two hundred thousand elements. So these are tried here, on small tables worked by hand and
+//! on one large netlist: in a module for each crate that its trials are of, each call that takes memory once, with the
+//! values that it then gives. A trial judges in one assertion, since each is proved to be safe before it runs.
+//!
+//! Shown: `of_net_base`, lists, names and graphs, and how a name is printed; `of_io_edge`, streams of pieces of any size, that fail
+//! in mid-stream, and of std; `of_gate_net`, equal gates and gates without a use; `of_flow_net`, the network of a netlist
+//! and the DRO count of epochs; `of_dro_chains`, the limit of DROs; `of_pulse_net`, netlists that break each rule, and what
+//! others unfold to; `of_splitters`, chains that can't be laid out, and a netlist of more than 200,000 elements that is laid
+//! out, found valid and unfolded.
+//! Promised: nothing. It has no function for others, and no crate stands on it.
+//! Not shown: what a clause says both ways of a call that takes no memory, and what runs of the program show.
+#![tactic(auto)]
+
+#[cfg(test)]
+mod gate_rows;
+#[cfg(test)]
+mod of_dro_chains;
+#[cfg(test)]
+mod of_flow_net;
+#[cfg(test)]
+mod of_gate_net;
+#[cfg(test)]
+mod of_io_edge;
+#[cfg(test)]
+mod of_net_base;
+#[cfg(test)]
+mod of_pulse_net;
+#[cfg(test)]
+mod of_splitters;
+#[cfg(test)]
+mod pulse_rows;
