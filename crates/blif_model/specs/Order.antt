@@ -36,7 +36,7 @@ abbrev pub pins_of : Option Table → List ℕ
 pins_of None = []
 pins_of (Some table) = table.pins
 
--- a walk of so many steps leads from one signal to another, each step from a signal to a pin of the table that drives it
+-- a walk of n steps leads from one signal to another, each step from a signal to a pin of the table that drives it
 abbrev pub leads : List Table → ℕ → ℕ → ℕ → Bool
 leads tables zero from to = from == to
 leads tables (suc steps) from to = list_any (λ pin. leads tables steps pin to) (pins_of (driver_of tables from))

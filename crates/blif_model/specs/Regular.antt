@@ -5,13 +5,13 @@ use Rattle.blif_model.specs.declared.design.Table.{Table}
 use Rattle.blif_model.specs.declared.design.Design.{Design}
 use Rattle.blif_model.specs.declared.design.TheConstants.{MAX_INPUTS, MAX_OUTPUTS, MAX_TABLES, MAX_PINS}
 
--- signals that are listed: each has one of so many names, none stands twice, and they are not too many
+-- signals that are listed: each has one of `names` names, none stands twice, and they are not too many
 pub record AreListed (names most : ℕ) (signals : List ℕ) : Type 0 where
   pub named : All (λ signal. signal < names) signals
   pub distinct : IsDistinct nat_eq signals
   pub few : length signals ≤ most
 
--- a table among so many names: its target and its pins have names, and each of its rows has a bit for each pin
+-- a table, where there are `names` names: its target and its pins have names, and each of its rows has a bit for each pin
 pub record IsTable (names : ℕ) (table : Table) : Type 0 where
   pub target : table.target < names
   pub pins : All (λ pin. pin < names) table.pins
