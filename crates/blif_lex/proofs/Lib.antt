@@ -1,0 +1,4 @@
+mod Cutting
+mod Tokens
+mod Joining
+mod Skipping
