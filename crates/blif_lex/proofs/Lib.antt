@@ -2,3 +2,4 @@ mod Cutting
 mod Tokens
 mod Joining
 mod Skipping
+mod Examples
