@@ -3,3 +3,4 @@ mod Tokens
 mod Joining
 mod Skipping
 mod Examples
+mod Spans

@@ -3,7 +3,7 @@
 ghost use Rattle.std.specs.Prelude.{◌≡◌, ◌≤◌, ◌<◌, ◌↔◌, ◌+◌, ◌||◌, ◌++◌, [], ◌∷◌, length, drop, None, IfOk, OnOk, OnErr, IfSome, IfNone};
 ghost use Rattle.std.specs.List.{list_any, cons_option};
 ghost use Rattle.blif_lex.specs.PhysicalLines as spec;
-ghost use Rattle.blif_lex.specs.LogicalLines.{all_from, is_given as given, lines_from, lines_of, tokens_at};
+ghost use Rattle.blif_lex.specs.LogicalLines.{all_from, is_given as given, lines_from, lines_of, tokens_at, AreWithin};
 
 use crate::bytes::{behind, content, has_bad_byte, line_len, word_len};
 use crate::{LogicalLine, Span};
@@ -106,6 +106,7 @@ fn given_at(
     ensures line { IfOk result (λ read. lines_from place.number place.at text.now
       ≡ cons_option read.0 (lines_from read.1.number read.1.at text.now)) }
     ensures end { IfOk result (λ read. IfNone read.0 (lines_from place.number place.at text.now ≡ [])) }
+    ensures spans { IfOk result (λ read. IfSome read.0 (λ line. AreWithin 0 (length text.now) line.tokens)) }
     ensures within { IfOk result (λ read. read.1.at ≤ length text.now) }
     ensures number { IfOk result (λ read. read.1.number ≤ read.1.at + 1) }
 {
@@ -162,6 +163,7 @@ impl<'a> LogicalLines<'a> {
         ensures text { self.new.text ≡ self.old.text }
         ensures line { IfOk result (λ given. self.old.left ≡ cons_option given self.new.left) }
         ensures end { IfOk result (λ given. (given ≡ None) ↔ (self.old.left ≡ [])) }
+        ensures spans { IfOk result (λ given. IfSome given (λ line. AreWithin 0 (length self.old.text) line.tokens)) }
         ensures no_memory { OnErr result (self.new ≡ self.old) }
     {
         let place = Place {

@@ -1,6 +1,7 @@
 use Rattle.std.proofs.Common.{◌≡◌, ◌≤◌, [], length, arith, sym, ap, ◌∙◌}
 use Rattle.blif_lex.specs.LogicalLines.{lines_from, all_from}
 use Rattle.blif_lex.proofs.Skipping.{lines_from-given, lines_from-skipped, lines_from-end}
+use Rattle.blif_lex.proofs.Spans.{first-AreWithin}
 use Rattle.blif_lex.proofs.lines.given_at.Goals as goal
 
 pub returns-then-is_given-clause-line : goal.returns-then-is_given-clause-line
@@ -9,6 +10,12 @@ returns-then-is_given-clause-line c =
     let given = sym c.is_given.ensures ∙ c.if-is_given.true in
     sym c.loop-next.invariant.whole
     ∙ lines_from-given c.loop-next.next.number c.loop-next.next.at c.in_ok-line.behind.number c.in_ok-line.behind.at c.args.text.now c.in_ok-line.line read given
+
+pub returns-then-is_given-clause-spans : goal.returns-then-is_given-clause-spans
+returns-then-is_given-clause-spans c =
+    let given = sym c.is_given.ensures ∙ c.if-is_given.true in
+    first-AreWithin c.loop-next.next.number c.loop-next.next.at c.args.text.now c.in_ok-line.line (lines_from c.in_ok-line.behind.number c.in_ok-line.behind.at c.args.text.now) c.loop-next.invariant.within
+    (lines_from-given c.loop-next.next.number c.loop-next.next.at c.in_ok-line.behind.number c.in_ok-line.behind.at c.args.text.now c.in_ok-line.line c.in_ok-line.ensures.line given)
 
 pub loop-next-preserved : goal.loop-next-preserved
 loop-next-preserved c =
