@@ -147,6 +147,6 @@ a_zero_byte = refl
 
 -- the spans themselves
 spans_of_two_lines : lines_of (codes "ab c\n\n d") ≡ record { line = 1; bad = false; tokens = record { start = 0; end = 2 } ∷ record { start = 3; end = 4 } ∷ [] }
-  ∷ record { line = 3; bad = false; tokens = record { start = 7; end = 8 } ∷ [] } ∷ []
+    ∷ record { line = 3; bad = false; tokens = record { start = 7; end = 8 } ∷ [] } ∷ []
 unfolding read
 spans_of_two_lines = refl

@@ -83,7 +83,10 @@ fn last_blanks(line: &[u8]) -> usize
     ensures count { result ≡ suffix_len spec.is_blank line.now }
     ensures within { result ≤ length line.now }
 {
-    line.iter().rev().take_while(|byte| is_blank(**byte)).count()
+    line.iter()
+        .rev()
+        .take_while(|byte| is_blank(**byte))
+        .count()
 }
 
 #[tactic(auto, unfolding(crate::specs::PhysicalLines::without_last_blanks))]

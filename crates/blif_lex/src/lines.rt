@@ -24,7 +24,10 @@ fn push_tokens(tokens: &mut List<Span>, start: usize, bytes: &[u8]) -> Result<()
     while !rest.is_empty() {
         let len = word_len(rest);
         if len > 0 {
-            tokens.push(Span { start: at, end: at + len })?;
+            tokens.push(Span {
+                start: at,
+                end: at + len,
+            })?;
         }
         rest = behind(rest, len);
         at += len + 1;
@@ -62,7 +65,7 @@ fn line_at(alloc: Global, text: &[u8], place: Place) -> Result<(LogicalLine, Pla
     requires number { place.number ≤ place.at + 1 }
     requires short { length text.now ≤ MAX_TEXT_BYTES }
     ensures line { IfOk result (λ read. all_from place.number place.at text.now
-      ≡ read.0 ∷ all_from read.1.number read.1.at text.now) }
+        ≡ read.0 ∷ all_from read.1.number read.1.at text.now) }
     ensures within { IfOk result (λ read. read.1.at ≤ length text.now) }
     ensures number { IfOk result (λ read. read.1.number ≤ read.1.at + 1) }
     ensures behind { IfOk result (λ read. place.at < read.1.at) }
@@ -104,7 +107,7 @@ fn given_at(
     requires number { place.number ≤ place.at + 1 }
     requires short { length text.now ≤ MAX_TEXT_BYTES }
     ensures line { IfOk result (λ read. lines_from place.number place.at text.now
-      ≡ cons_option read.0 (lines_from read.1.number read.1.at text.now)) }
+        ≡ cons_option read.0 (lines_from read.1.number read.1.at text.now)) }
     ensures end { IfOk result (λ read. IfNone read.0 (lines_from place.number place.at text.now ≡ [])) }
     ensures spans { IfOk result (λ read. IfSome read.0 (λ line. AreWithin 0 (length text.now) line.tokens)) }
     ensures within { IfOk result (λ read. read.1.at ≤ length text.now) }

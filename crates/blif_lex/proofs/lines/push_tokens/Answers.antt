@@ -12,14 +12,14 @@ loop-rest-preserved c =
     let len = c.word_len-len.result in
     let rest = c.loop-rest.rest.now in
     let turn : c.if-len-gt0.tokens ++ tokens_at (c.loop-rest.at + (len + 1)) (drop (len + 1) rest) ≡ c.loop-rest.tokens ++ tokens_at c.loop-rest.at rest =
-        elim c.if-len-gt0.branch [
-          | then-len-gt0+in_ok-push w ↦
-              let word : 0 < len = omega arith in
-              rw (w.tokens-is, w.in_ok-push.ensures.ok) (add-word c.loop-rest.at rest len c.word_len-len.ensures.count some c.loop-rest.tokens word)
-          | else-len-gt0 w ↦
-              let none : len ≡ 0 = omega arith in
-              rw w.tokens-is (add-blank c.loop-rest.at rest len c.word_len-len.ensures.count some c.loop-rest.tokens none)
-        ] in
+    elim c.if-len-gt0.branch [
+      | then-len-gt0+in_ok-push w ↦
+          let word : 0 < len = omega arith in
+          rw (w.tokens-is, w.in_ok-push.ensures.ok) (add-word c.loop-rest.at rest len c.word_len-len.ensures.count some c.loop-rest.tokens word)
+      | else-len-gt0 w ↦
+          let none : len ≡ 0 = omega arith in
+          rw w.tokens-is (add-blank c.loop-rest.at rest len c.word_len-len.ensures.count some c.loop-rest.tokens none)
+    ] in
     record {
       whole = rw c.behind-rest.ensures (turn ∙ c.loop-rest.invariant.whole);
       short = rw c.behind-rest.ensures (λ more.
