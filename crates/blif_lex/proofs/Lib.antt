@@ -4,3 +4,4 @@ mod Joining
 mod Skipping
 mod Examples
 mod Spans
+mod PartsOfText
