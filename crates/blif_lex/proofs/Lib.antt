@@ -5,3 +5,4 @@ mod Skipping
 mod Examples
 mod Spans
 mod PartsOfText
+mod FrontOfLine
