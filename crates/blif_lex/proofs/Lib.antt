@@ -6,3 +6,4 @@ mod Examples
 mod Spans
 mod PartsOfText
 mod FrontOfLine
+mod TokensOfText
