@@ -1,5 +1,5 @@
 -- Small texts and their logical lines: the number of each line, whether it is bad, and the bytes of its tokens.
-use Rattle.std.specs.Prelude.{◌≡◌, ℕ, ◌+◌, Bool, true, false, List, [], ◌∷◌, ◌++◌, map, slice_range, codes, refl}
+use Rattle.std.specs.Prelude.{◌≡◌, ℕ, Bool, true, false, List, [], ◌∷◌, ◌++◌, map, slice_range, codes, refl}
 use Rattle.blif_lex.specs.declared.line.LogicalLine.{LogicalLine}
 use Rattle.blif_lex.specs.declared.line.Span.{Span}
 use Rattle.blif_lex.specs.PhysicalLines.{without_carriage_return, without_comment, without_last_blanks, kept, is_joined, content}

@@ -1,7 +1,7 @@
 -- What is read of a line is its front, and behind it stands what is dropped: from a carriage return, a `#`, a blank or a
 -- backslash on.
-use Rattle.std.proofs.Common.{◌≡◌, ◌<◌, ◌≤◌, ◌+◌, ◌-◌, ◌++◌, ◌∷◌, ◌==◌, ◌⊎◌, inl, inr, ℕ, zero, suc, Bool, true, false, not, List, [], length, take, drop, get_or, reverse, refl, sym, ap, subst, ◌∙◌, append_assoc, append-nil, arith, if◌then◌else◌}
-use Rattle.std.specs.List.{prefix_len, suffix_len, position_or_len}
+use Rattle.std.proofs.Common.{◌≡◌, ◌<◌, ◌≤◌, ◌-◌, ◌++◌, ◌∷◌, ◌==◌, ◌⊎◌, inl, inr, ℕ, Bool, true, false, not, List, [], length, take, drop, get_or, reverse, refl, sym, ap, subst, ◌∙◌, append_assoc, append-nil, arith, if◌then◌else◌}
+use Rattle.std.specs.List.{suffix_len, position_or_len}
 use Rattle.std.proofs.lemmas.Bool.{cases_lt}
 use Rattle.std.proofs.lemmas.Bool.Decides.{Decides-eqb}
 use Rattle.std.proofs.lemmas.List.{get_or-reverse, take-append-drop, length-reverse}
@@ -70,13 +70,13 @@ unfolding without_last_blanks
 without_last_blanks-IsFront line =
     let k = length line - suffix_len is_blank line in
     front_take line k (λ within.
-      let few : suffix_len is_blank line ≤ length line = omega (arith, prefix_len-le-length is_blank (reverse line), length-reverse line) in
-      let j = length line - 1 - k in
-      let last : j < suffix_len is_blank line = omega arith in
-      let place : length line - 1 - j ≡ k = omega arith in
-      let here = prefix_len_passes is_blank (reverse line) j 0 last in
-      let same : get_or (reverse line) j 0 ≡ get_or line k 0 = get_or-reverse line j 0 (omega arith) ∙ ap (λ n. get_or line n 0) place in
-      blank-behind (get_or line k 0) (ap is_blank (sym same) ∙ here))
+    let few : suffix_len is_blank line ≤ length line = omega (arith, prefix_len-le-length is_blank (reverse line), length-reverse line) in
+    let j = length line - 1 - k in
+    let last : j < suffix_len is_blank line = omega arith in
+    let place : length line - 1 - j ≡ k = omega arith in
+    let here = prefix_len_passes is_blank (reverse line) j 0 last in
+    let same : get_or (reverse line) j 0 ≡ get_or line k 0 = get_or-reverse line j 0 (omega arith) ∙ ap (λ n. get_or line n 0) place in
+    blank-behind (get_or line k 0) (ap is_blank (sym same) ∙ here))
 
 kept-IsFront : (line : List ℕ) → IsFront line (kept line)
 unfolding kept

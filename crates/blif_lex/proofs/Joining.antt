@@ -1,15 +1,14 @@
 -- One turn of the loop over physical lines: a line is joined to the line so far.
-use Rattle.std.proofs.Common.{◌≡◌, ◌<◌, ◌≤◌, ◌+◌, ◌-◌, ◌++◌, ◌||◌, min, ℕ, zero, suc, Bool, true, false, nat_le, List, [], ◌∷◌, length, take, drop, map, refl, sym, ap, ◌∙◌, append_assoc, arith, length-drop, ◌⊎◌, inl, inr, if◌then◌else◌}
-use Rattle.std.specs.List.{filter, position_or_len, list_any}
+use Rattle.std.proofs.Common.{◌≡◌, ◌<◌, ◌≤◌, ◌+◌, ◌-◌, ◌++◌, ◌||◌, min, ℕ, Bool, true, false, List, [], ◌∷◌, length, take, drop, refl, sym, ap, ◌∙◌, append_assoc, arith, length-drop, ◌⊎◌, inl, inr}
+use Rattle.std.specs.List.{position_or_len, list_any}
 use Rattle.std.proofs.lemmas.List.{drop-drop}
 use Rattle.std.proofs.lemmas.Bool.{cases_lt}
 use Rattle.std.proofs.Math.ListN.{drop_of_length-le}
 use Rattle.std.proofs.Math.Seq.{take-length}
-use Rattle.blif_lex.specs.declared.line.Span.{Span}
 use Rattle.blif_lex.specs.declared.line.LogicalLine.{LogicalLine}
-use Rattle.blif_lex.specs.Parts.{Part, cut_at}
+use Rattle.blif_lex.specs.Parts.{Part}
 use Rattle.blif_lex.specs.PhysicalLines.{is_line_feed, is_bad_byte, is_joined, content, cut_at_line_feeds}
-use Rattle.blif_lex.specs.LogicalLines.{line_of, one_line, joined, logical_lines, all_from, tokens_at}
+use Rattle.blif_lex.specs.LogicalLines.{line_of, one_line, joined, all_from, tokens_at}
 use Rattle.blif_lex.proofs.Cutting.{cut_behind, cut_at-first}
 
 -- joining is associative

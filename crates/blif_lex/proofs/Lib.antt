@@ -1,9 +1,10 @@
+pub mod CallerLemmas
 mod Cutting
-mod Tokens
-mod Joining
-mod Skipping
 mod Examples
-mod Spans
-mod PartsOfText
 mod FrontOfLine
+mod Joining
+mod PartsOfText
+mod Skipping
+mod Spans
+mod Tokens
 mod TokensOfText

@@ -1,5 +1,5 @@
 -- The parts that a text is cut into, found again in the text: the first one at its front, and each later one behind a separator.
-use Rattle.std.proofs.Common.{◌≡◌, ◌<◌, ◌≤◌, ◌+◌, ◌++◌, ◌∷◌, ◌&&◌, ℕ, zero, suc, Bool, true, false, not, List, [], length, refl, sym, ap, ◌∙◌, arith}
+use Rattle.std.proofs.Common.{◌≡◌, ◌+◌, ◌++◌, ◌∷◌, ℕ, Bool, true, false, not, List, [], length, refl, ap, arith}
 use Rattle.std.specs.List.{list_all, AllByRecursion}
 use Rattle.blif_lex.specs.Parts.{Part, cut_at, with_byte}
 use Rattle.blif_lex.specs.Separators.{BeginsBy}
@@ -62,7 +62,7 @@ module _ (is_separator : ℕ → Bool) where
   with_byte-AreCut : (start byte : ℕ) (text : List ℕ) (parts : List Part) → is_separator byte ≡ false → AreCut (start + 1) text parts → AreCut start (byte ∷ text) (with_byte start byte parts)
   with_byte-AreCut start byte text [] is are =
       let first : IsFirst start (byte ∷ text) (record { start = start; bytes = byte ∷ [] }) =
-          record { behind = []; whole = ap (λ bytes. byte ∷ bytes) are; place = refl; inside = rw is refl; back = tt } in
+      record { behind = []; whole = ap (λ bytes. byte ∷ bytes) are; place = refl; inside = rw is refl; back = tt } in
       (first, tt)
   with_byte-AreCut start byte text (part ∷ parts) is are =
       let first : IsFirst start (byte ∷ text) (record { start = start; bytes = byte ∷ part.bytes }) = record {
@@ -77,7 +77,7 @@ module _ (is_separator : ℕ → Bool) where
   cut_by : (start byte : ℕ) (text : List ℕ) (is_one : Bool) → is_separator byte ≡ is_one → AreCut (start + 1) text (cut_at is_separator (start + 1) text) → AreCut start (byte ∷ text) (cut_at is_separator start (byte ∷ text))
   cut_by start byte text true is are =
       let first : IsFirst start (byte ∷ text) (record { start = start; bytes = [] }) =
-          record { behind = byte ∷ text; whole = refl; place = refl; inside = refl; back = is } in
+      record { behind = byte ∷ text; whole = refl; place = refl; inside = refl; back = is } in
       rw is (first, behind_separator start byte text (cut_at is_separator (start + 1) text) is are)
   cut_by start byte text false is are = rw is (with_byte-AreCut start byte text (cut_at is_separator (start + 1) text) is are)
 

@@ -1,6 +1,5 @@
 -- One turn of the loop over logical lines: a line is given or skipped.
-use Rattle.std.proofs.Common.{◌≡◌, ◌≤◌, ◌+◌, ◌||◌, ℕ, Bool, true, false, nat_le, List, [], ◌∷◌, length, drop, refl, sym, ap, ◌∙◌, arith}
-use Rattle.std.specs.List.{filter}
+use Rattle.std.proofs.Common.{◌≡◌, ◌≤◌, ℕ, true, false, List, [], ◌∷◌, length, refl}
 use Rattle.blif_lex.specs.declared.line.LogicalLine.{LogicalLine}
 use Rattle.blif_lex.specs.LogicalLines.{all_from, lines_from, is_given}
 use Rattle.blif_lex.proofs.Joining.{all_from-end}

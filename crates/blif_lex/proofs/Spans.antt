@@ -1,12 +1,12 @@
 -- The tokens of a line stand in ascending order in the text, and none of them is empty.
-use Rattle.std.proofs.Common.{◌≡◌, ◌<◌, ◌≤◌, ◌+◌, ◌-◌, ◌++◌, ◌||◌, ◌∷◌, ℕ, zero, suc, Bool, true, false, not, nat_le, List, [], length, take, drop, map, Option, Some, None, IfSome, refl, sym, ap, subst, ◌∙◌, arith, length-drop, length-take, if◌then◌else◌}
-use Rattle.std.specs.List.{filter, AllByRecursion, cons_option, position_or_len, suffix_len, before_first}
+use Rattle.std.proofs.Common.{◌≡◌, ◌<◌, ◌≤◌, ◌+◌, ◌-◌, ◌++◌, ◌∷◌, ℕ, Bool, true, false, nat_le, List, [], length, take, drop, map, refl, subst, arith, length-drop, length-take, if◌then◌else◌}
+use Rattle.std.specs.List.{filter, AllByRecursion}
 use Rattle.std.proofs.lemmas.Bool.Decides.{nat_tests}
 use Rattle.blif_lex.specs.declared.line.Span.{Span}
 use Rattle.blif_lex.specs.declared.line.LogicalLine.{LogicalLine}
 use Rattle.blif_lex.specs.Parts.{Part, cut_at, with_byte}
 use Rattle.blif_lex.specs.PhysicalLines.{is_blank, is_line_feed, ends_in, without_last_byte, without_carriage_return, without_comment, without_last_blanks, kept, is_joined, content, cut_at_line_feeds}
-use Rattle.blif_lex.specs.LogicalLines.{AreWithin, span_of, tokens_at, line_of, one_line, joined, logical_lines, is_given, all_from, lines_from}
+use Rattle.blif_lex.specs.LogicalLines.{AreWithin, span_of, tokens_at, line_of, joined, logical_lines, is_given, all_from, lines_from}
 
 -- parts in order between two places
 abbrev AreParts : ℕ → ℕ → List Part → Type 0

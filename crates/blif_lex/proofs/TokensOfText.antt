@@ -1,13 +1,13 @@
 -- Each token of a line is one of the text: the line stands in the text between line feeds, what is read of it stands at its
 -- front, and the token stands there between blanks.
-use Rattle.std.proofs.Common.{◌≡◌, ◌<◌, ◌≤◌, ◌+◌, ◌++◌, ◌∷◌, ◌||◌, ◌&&◌, ℕ, zero, suc, Bool, true, false, not, nat_le, List, [], length, drop, map, Some, None, Option, refl, sym, ap, ◌∙◌, append_assoc, append-nil, length-append, arith, if◌then◌else◌}
+use Rattle.std.proofs.Common.{◌≡◌, ◌<◌, ◌+◌, ◌++◌, ◌∷◌, ◌||◌, ◌&&◌, ℕ, Bool, true, false, not, nat_le, List, [], length, map, Some, None, Option, refl, sym, ap, ◌∙◌, append_assoc, length-append, arith, if◌then◌else◌}
 use Rattle.std.specs.List.{filter, list_all, last_or, AllByRecursion}
 use Rattle.std.proofs.lemmas.Bool.Decides.{nat_tests}
 use Rattle.blif_lex.specs.declared.line.Span.{Span}
 use Rattle.blif_lex.specs.declared.line.LogicalLine.{LogicalLine}
 use Rattle.blif_lex.specs.Parts.{Part, cut_at}
 use Rattle.blif_lex.specs.PhysicalLines.{is_blank, is_line_feed, is_joined, content, cut_at_line_feeds}
-use Rattle.blif_lex.specs.LogicalLines.{span_of, tokens_at, line_of, joined, logical_lines, is_given, all_from, lines_from, lines_of}
+use Rattle.blif_lex.specs.LogicalLines.{span_of, tokens_at, line_of, joined, logical_lines, is_given, all_from, lines_from}
 use Rattle.blif_lex.specs.Separators.{is_before, is_behind, EndsBy, BeginsBy, IsToken, TokensStandBetweenSeparators}
 use Rattle.blif_lex.proofs.PartsOfText.{IsFirst, IsLater, AreCut, cut_at-AreCut}
 use Rattle.blif_lex.proofs.FrontOfLine.{BeginsBy-append, content-IsFront}

@@ -31,7 +31,8 @@ abbrev pub joined : LogicalLine → List LogicalLine → List LogicalLine
 joined line [] = line ∷ []
 joined line (next ∷ lines) = one_line line next ∷ lines
 
--- the logical lines of physical lines, the first of which has a number
+-- The logical lines of physical lines, the first of which has a number. Each physical line is looked at by itself, so what a
+-- join makes isn't looked at again.
 abbrev pub logical_lines : ℕ → List Part → List LogicalLine
 logical_lines number [] = []
 logical_lines number (part ∷ parts) =
@@ -43,7 +44,7 @@ logical_lines number (part ∷ parts) =
 unfoldable pub all_from : ℕ → ℕ → List ℕ → List LogicalLine
 all_from number start text = logical_lines number (cut_at_line_feeds start (drop start text))
 
--- A line that has no token and isn't bad is skipped.
+-- A line that has no token and isn't bad is skipped. (A bad byte is no blank, so a bad line has a token.)
 abbrev pub is_given : LogicalLine → Bool
 is_given line = line.bad || nat_le 1 (length line.tokens)
 

@@ -1,6 +1,6 @@
 //! Reading logical lines one at a time.
 
-ghost use Rattle.std.specs.Prelude.{◌≡◌, ◌≤◌, ◌<◌, ◌↔◌, ◌+◌, ◌||◌, ◌++◌, [], ◌∷◌, length, drop, None, IfOk, OnOk, OnErr, IfSome, IfNone};
+ghost use Rattle.std.specs.Prelude.{◌≡◌, ◌≤◌, ◌<◌, ◌↔◌, ◌+◌, ◌||◌, ◌++◌, [], ◌∷◌, length, min, true, None, IfOk, OnOk, OnErr, IfSome, IfNone};
 ghost use Rattle.std.specs.List.{list_any, cons_option};
 ghost use Rattle.blif_lex.specs.PhysicalLines as spec;
 ghost use Rattle.blif_lex.specs.LogicalLines.{all_from, is_given as given, lines_from, lines_of, tokens_at, AreWithin};
@@ -11,7 +11,7 @@ use net_base::{List, NoMemory};
 use std::alloc::Global;
 use std::marker::Model;
 
-/// The bytes of a text at most: 2^23, so that each number of a line and each place fits 24 bits.
+/// The bytes of a text at most: 2^23, so that each place, and the number of each line, is far below 2^32.
 pub const MAX_TEXT_BYTES: usize = 8_388_608;
 
 // Adds the tokens of bytes that begin at a place of the text.
@@ -110,6 +110,7 @@ fn given_at(
         ≡ cons_option read.0 (lines_from read.1.number read.1.at text.now)) }
     ensures end { IfOk result (λ read. IfNone read.0 (lines_from place.number place.at text.now ≡ [])) }
     ensures spans { IfOk result (λ read. IfSome read.0 (λ line. AreWithin 0 (length text.now) line.tokens)) }
+    ensures given { IfOk result (λ read. IfSome read.0 (λ line. given line ≡ true)) }
     ensures within { IfOk result (λ read. read.1.at ≤ length text.now) }
     ensures number { IfOk result (λ read. read.1.number ≤ read.1.at + 1) }
 {
@@ -124,8 +125,7 @@ fn given_at(
     Ok((None, next))
 }
 
-/// The logical lines of a text that are still to come. Contracts see a [`Reading`](specs/LogicalLines.antt): the text and
-/// these lines.
+/// The logical lines of a text that are still to come. Contracts see a `Reading`: the text, and these lines.
 #[derive(Drop)]
 pub struct LogicalLines<'a> {
     text: &'a [u8],
@@ -164,9 +164,10 @@ impl<'a> LogicalLines<'a> {
     /// comes next.
     pub fn next(&mut self, alloc: Global) -> Result<Option<LogicalLine>, NoMemory>
         ensures text { self.new.text ≡ self.old.text }
-        ensures line { IfOk result (λ given. self.old.left ≡ cons_option given self.new.left) }
-        ensures end { IfOk result (λ given. (given ≡ None) ↔ (self.old.left ≡ [])) }
-        ensures spans { IfOk result (λ given. IfSome given (λ line. AreWithin 0 (length self.old.text) line.tokens)) }
+        ensures line { IfOk result (λ next. self.old.left ≡ cons_option next self.new.left) }
+        ensures end { IfOk result (λ next. (next ≡ None) ↔ (self.old.left ≡ [])) }
+        ensures spans { IfOk result (λ next. IfSome next (λ line. AreWithin 0 (length self.old.text) line.tokens)) }
+        ensures given { IfOk result (λ next. IfSome next (λ line. given line ≡ true)) }
         ensures no_memory { OnErr result (self.new ≡ self.old) }
     {
         let place = Place {

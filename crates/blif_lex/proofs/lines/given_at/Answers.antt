@@ -1,5 +1,5 @@
-use Rattle.std.proofs.Common.{◌≡◌, ◌≤◌, [], length, arith, sym, ap, ◌∙◌}
-use Rattle.blif_lex.specs.LogicalLines.{lines_from, all_from}
+use Rattle.std.proofs.Common.{sym, ◌∙◌}
+use Rattle.blif_lex.specs.LogicalLines.{lines_from}
 use Rattle.blif_lex.proofs.Skipping.{lines_from-given, lines_from-skipped, lines_from-end}
 use Rattle.blif_lex.proofs.Spans.{first-AreWithin}
 use Rattle.blif_lex.proofs.lines.given_at.Goals as goal

@@ -1,6 +1,6 @@
-use Rattle.std.proofs.Common.{◌≡◌, ◌<◌, ◌≤◌, ◌+◌, ◌-◌, ◌∷◌, [], min, length, take, drop, arith, sym, ap, ◌∙◌}
-use Rattle.blif_lex.specs.LogicalLines.{all_from, joined}
-use Rattle.blif_lex.proofs.Joining.{drop-all, all_from-start, all_from-end, turn-joined, turn-alone, no_line}
+use Rattle.std.proofs.Common.{◌-◌, ◌∷◌, length, take, drop, arith, sym, ap, ◌∙◌}
+use Rattle.blif_lex.specs.LogicalLines.{joined}
+use Rattle.blif_lex.proofs.Joining.{drop-all, all_from-start, all_from-end, turn-joined, turn-alone}
 use Rattle.blif_lex.proofs.lines.line_at.Goals as goal
 
 pub loop-at-init : goal.loop-at-init

@@ -1,4 +1,4 @@
-use Rattle.std.proofs.Common.{◌≡◌, ◌<◌, ◌≤◌, ◌+◌, ◌-◌, length}
+use Rattle.std.proofs.Common.{◌≡◌, ◌≤◌, ◌+◌, ◌-◌, length}
 use Rattle.blif_lex.specs.LogicalLines.{all_from, joined}
 use Rattle.blif_lex.proofs.lines.line_at.Given as goal
 

@@ -1,4 +1,4 @@
-use Rattle.std.proofs.Common.{◌≡◌, ◌<◌, ◌≤◌, ◌+◌, ◌++◌, ℕ, [], length, drop, arith, sym, ap, ◌∙◌, append-nil, length-drop}
+use Rattle.std.proofs.Common.{◌≡◌, ◌<◌, ◌≤◌, ◌+◌, ◌++◌, length, drop, arith, sym, ap, ◌∙◌, append-nil, length-drop}
 use Rattle.std.proofs.lemmas.Bool.Decides.{nat_tests}
 use Rattle.blif_lex.specs.LogicalLines.{tokens_at}
 use Rattle.blif_lex.specs.declared.lines.TheConstants.{MAX_TEXT_BYTES}
