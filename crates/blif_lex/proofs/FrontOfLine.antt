@@ -8,7 +8,7 @@ use Rattle.std.proofs.lemmas.List.{get_or-reverse, take-append-drop, length-reve
 use Rattle.std.proofs.lemmas.List.Sums.{prefix_len_stops, prefix_len_passes, prefix_len-le-length}
 use Rattle.std.proofs.Math.ListN.{drop_of_length-le}
 use Rattle.std.proofs.Math.Seq.{drop-cons}
-use Rattle.blif_lex.specs.PhysicalLines.{is_blank, is_hash, ends_in, without_last_byte, without_carriage_return, without_comment, without_last_blanks, kept, content}
+use Rattle.blif_lex.specs.PhysicalLines.{is_blank, is_hash, ends_in, without_last_byte, without_carriage_return, without_comment, without_last_blanks, kept, is_joined, content}
 use Rattle.blif_lex.specs.Separators.{BeginsBy, is_behind}
 
 pub BeginsBy-append : (test : ℕ → Bool) (bytes others : List ℕ) → BeginsBy test bytes → BeginsBy test others → BeginsBy test (bytes ++ others)
@@ -86,5 +86,5 @@ kept-IsFront line =
     (front_of_front front (without_comment front) (kept line) (without_comment-IsFront front) (without_last_blanks-IsFront (without_comment front)))
 
 pub content-IsFront : (line : List ℕ) → IsFront line (content line)
-unfolding content
+unfolding content is_joined
 content-IsFront line = front_of_front line (kept line) (content line) (kept-IsFront line) (front_by (kept line) 92 (ends_in 92 (kept line)) refl refl)

@@ -94,7 +94,7 @@ kept-shorter line =
     omega (arith, without_carriage_return-shorter line, without_comment-shorter front, without_last_blanks-shorter (without_comment front))
 
 content-shorter : (line : List ℕ) → length (content line) ≤ length line
-unfolding content
+unfolding content is_joined
 content-shorter line =
     let short = kept-shorter line in
     if_shorter (ends_in 92 (kept line)) line (without_last_byte (kept line)) (kept line) (omega (arith, take-shorter (length (kept line) - 1) (kept line))) short

@@ -47,7 +47,7 @@ is_joined line = ends_in 92 (kept line)
 
 -- and the backslash is dropped.
 unfoldable pub content : List ℕ → List ℕ
-content line = if ends_in 92 (kept line) then without_last_byte (kept line) else kept line
+content line = if is_joined line then without_last_byte (kept line) else kept line
 
 -- neither a tab nor a byte from the space to the tilde
 abbrev pub is_bad_byte : ℕ → Bool

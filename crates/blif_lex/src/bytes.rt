@@ -14,7 +14,7 @@ pub(crate) fn is_blank(byte: u8) -> bool
 fn is_bad_byte(byte: u8) -> bool
     ensures { result ≡ spec.is_bad_byte byte }
 {
-    !(byte == b'\t' || (byte >= b' ' && byte <= b'~'))
+    !matches!(byte, b'\t' | b' '..=b'~')
 }
 
 pub(crate) fn has_bad_byte(bytes: &[u8]) -> bool

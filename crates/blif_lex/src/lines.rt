@@ -160,6 +160,7 @@ impl<'a> LogicalLines<'a> {
             number: 1,
         }
     }
+
     /// The next logical line that isn't skipped, or None at the end. After `NoMemory` nothing has moved: the same line
     /// comes next.
     pub fn next(&mut self, alloc: Global) -> Result<Option<LogicalLine>, NoMemory>
