@@ -17,6 +17,10 @@
 #[cfg(test)]
 mod gate_rows;
 #[cfg(test)]
+mod of_blif_lex;
+#[cfg(test)]
+mod of_blif_model;
+#[cfg(test)]
 mod of_dro_chains;
 #[cfg(test)]
 mod of_flow_net;

@@ -63,7 +63,7 @@ fn push_all_names(alloc: Global, names: &mut Names, inputs: usize, outputs: usiz
     push_names(alloc, &mut names.outputs, outputs)
 }
 
-/// Names for so many inputs and outputs.
+/// Names for n inputs and m outputs.
 pub(crate) fn names(alloc: Global, inputs: usize, outputs: usize) -> Option<Names> {
     let mut names = Names {
         model: Name::of(alloc, b"m").ok()?,

@@ -1,0 +1,4 @@
+pub mod Parts
+pub mod PhysicalLines
+pub mod LogicalLines
+pub mod Separators
