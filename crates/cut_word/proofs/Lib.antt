@@ -1,0 +1,8 @@
+mod Tables
+
+mod WordParts
+mod Unions
+mod Places
+mod MergeSteps
+pub mod CutLemmas
+mod MergeTables

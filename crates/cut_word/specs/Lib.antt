@@ -1,0 +1,6 @@
+pub mod Cut
+pub mod Laws
+pub mod Merge
+pub mod Steps
+pub mod Table
+pub mod Word

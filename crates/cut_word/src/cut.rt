@@ -1,0 +1,134 @@
+//! Cuts of two words.
+
+ghost use Rattle.std.specs.Prelude.{IsNone, ◌⊎◌, ◌^◌, ◌-◌, ◌≡◌, ◌<◌, ◌↔◌, ℕ, Bool, not, IsTrue, IfSome, IfNone, All, Contains, length, [], ◌∷◌};
+ghost use Rattle.cut_word.specs.Cut.{IsCut, value_over, trivial_cut, negated};
+ghost use Rattle.cut_word.specs.Word.{IsWords, first_word, padded};
+
+use crate::words::{FIRST, SIZE, are_words, fields};
+use std::marker::Model;
+
+/// Leaves are ids below this: a leaf has 20 bits of a cut's first word and stands there plus 1, and one number stays free.
+pub const LEAF_LIMIT: u32 = 1_048_574;
+
+/// A cut.
+#[derive(Clone, Copy, Debug, PartialEq, Eq, PartialOrd, Ord)]
+pub struct Cut {
+    pub(crate) leaves: u64,
+    pub(crate) table: u64,
+}
+
+impl Model for Cut {
+    ghost use Rattle.cut_word.specs.Cut.{CutView};
+    ghost use Rattle.cut_word.specs.Word.{first_word, cut_of, AreOfCut};
+
+    ghost Value = { CutView };
+
+    ghost view = { λ c. cut_of c.leaves c.table };
+
+    ghost invariant = { λ c. AreOfCut c.leaves c.table };
+
+    ghost inverse = { λ cut. record { leaves = first_word cut.leaves; table = cut.table } };
+
+    ghost use Rattle.std.proofs.Common.{refl};
+
+    ghost inverse_ok = { λ c h. rw h.whole refl };
+}
+
+/// The parts of a cut.
+#[derive(Clone, Copy, Debug, PartialEq, Eq)]
+pub struct CutParts {
+    /// How many leaves there are, 1 to 3.
+    pub size: u32,
+    /// Their ids, ascending; absent ones are 0.
+    pub leaves: [u32; 3],
+    /// The truth table: bit m is the value where leaf 1 has bit 0 of m, leaf 2 bit 1 and leaf 3 bit 2.
+    pub table: u8,
+}
+
+/// The cut of one leaf whose value is the leaf's own.
+pub fn trivial(id: u32) -> Cut
+    requires { id < LEAF_LIMIT }
+    ensures value { result ≡ trivial_cut id }
+    ensures meaning { (values : ℕ → Bool) → value_over values result ≡ values id }
+    ensures cut { IsCut result }
+{
+    Cut {
+        leaves: SIZE + (u64::from(id) + 1) * FIRST,
+        table: 0xAA,
+    }
+}
+
+/// The size, the leaves and the table.
+pub fn unpack(c: Cut) -> CutParts
+    ensures size { result.size ≡ length c.leaves }
+    ensures leaves { result.leaves ≡ padded c.leaves }
+    ensures table { result.table ≡ c.table }
+    ensures cut { IsCut c }
+{
+    let [one, two, three] = fields(c.leaves);
+    CutParts {
+        size: (c.leaves / SIZE) as u32,
+        leaves: [id_of(one), id_of(two), id_of(three)],
+        table: c.table as u8,
+    }
+}
+
+// The leaf that a number stands for, or 0.
+fn id_of(field: u64) -> u32
+    requires { field < 2 ^ 20 }
+    ensures { result ≡ field - 1 }
+{
+    field.saturating_sub(1) as u32
+}
+
+/// The cut of these words. None exactly where the pair is no cut's.
+pub fn from_words(a: u64, b: u64) -> Option<Cut>
+    ensures some { IfSome result (λ cut. (first_word cut.leaves ≡ a) × (cut.table ≡ b)) }
+    ensures none { IsNone result ↔ ¬ IsWords a b }
+    ensures cut { IfSome result (λ cut. IsCut cut) }
+{
+    if are_words(a, b) {
+        Some(Cut { leaves: a, table: b })
+    } else {
+        None
+    }
+}
+
+/// Its two words.
+pub fn to_words(c: Cut) -> (u64, u64)
+    ensures first { result.0 ≡ first_word c.leaves }
+    ensures second { result.1 ≡ c.table }
+    ensures words { IsWords result.0 result.1 }
+{
+    (c.leaves, c.table)
+}
+
+/// The cut of the same leaves with the complement's value.
+pub fn negate(c: Cut) -> Cut
+    ensures value { result ≡ negated c }
+    ensures leaves { result.leaves ≡ c.leaves }
+    ensures complement { (values : ℕ → Bool) → value_over values result ≡ not (value_over values c) }
+    ensures cut { IsCut result }
+{
+    Cut {
+        table: 0xFF - c.table,
+        ..c
+    }
+}
+
+/// Whether each leaf of `b` is a leaf of `a`.
+pub fn contains(a: Cut, b: Cut) -> bool
+    ensures { IsTrue result ↔ All (λ leaf. Contains a.leaves leaf) b.leaves }
+{
+    let among = fields(a.leaves);
+    let [one, two, three] = fields(b.leaves);
+    is_among(among, one) && is_among(among, two) && is_among(among, three)
+}
+
+// Whether a number stands for one of these leaves, or for none.
+fn is_among(leaves: [u64; 3], leaf: u64) -> bool
+    ensures { IsTrue result ↔ ((leaf ≡ 0) ⊎ Contains leaves leaf) }
+{
+    let [one, two, three] = leaves;
+    leaf == 0 || leaf == one || leaf == two || leaf == three
+}
