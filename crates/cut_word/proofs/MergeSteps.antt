@@ -4,12 +4,13 @@ use Rattle.std.specs.List.{All}
 use Rattle.std.proofs.lemmas.List.Elements.{All-tail}
 use Rattle.std.proofs.lemmas.Bool.{cases_eq, cases_order, cases_Bool, lt-ltb, le-ltb, eqb-true, eq-eqb, ne_eqb}
 use Rattle.cut_word.specs.declared.cut.TheConstants.{LEAF_LIMIT}
-use Rattle.cut_word.specs.Word.{field_at, packed, leaf_of}
+use Rattle.cut_word.specs.Cut.{CutView, IsCut}
+use Rattle.cut_word.specs.Word.{field_at, packed, leaf_of, leaves_in, cut_of, AreOfCut}
 use Rattle.cut_word.specs.declared.merging.Had.{Had}
 use Rattle.cut_word.specs.Steps.{front_of, least_front, behind, where_had, IsUnion}
 use Rattle.cut_word.specs.Merge.{united, with_leaf}
-use Rattle.cut_word.proofs.Unions.{Rises, united-none, united-first, united-second, united-both}
-use Rattle.cut_word.proofs.WordParts.{field_at-fits}
+use Rattle.cut_word.proofs.Unions.{Rises, Rises-from, united-none, united-first, united-second, united-both}
+use Rattle.cut_word.proofs.WordParts.{field_at-fits, Parts, Parts-of}
 
 -- leaves that are left of a cut
 pub record AreLeft (leaves : List ℕ) : Type 0 where
@@ -273,3 +274,36 @@ module _ (xs ys : List ℕ) (x1 y1 one x2 y2 two x3 y3 three : ℕ) (s : Steps x
       first = (front_of x3 == three, rw (a-one, a-two) x-part);
       second = (front_of y3 == three, rw (b-one, b-two) y-part)
     }
+
+-- The steps over the words of two cuts.
+AreLeft-of : (word table : ℕ) (cut : CutView) → AreOfCut word table → cut_of word table ≡ cut → AreLeft cut.leaves
+AreLeft-of word table cut are is =
+    let cut-is : IsCut cut = subst IsCut is are.cut in
+    record { few = cut-is.few; rises = Rises-from cut.leaves cut-is.ascending; low = cut-is.low }
+
+packed-of : (word table : ℕ) (cut : CutView) → AreOfCut word table → cut_of word table ≡ cut → word % 2 ^ 62 ≡ packed cut.leaves
+packed-of word table cut are is = let parts : Parts word (leaves_in word) = Parts-of word table are in parts.rest ∙ ap (λ (v : CutView). packed v.leaves) is
+
+pub Steps-of : (a b : CutView) (first-a second-a first-b second-b : ℕ) → AreOfCut first-a second-a → AreOfCut first-b second-b
+    → cut_of first-a second-a ≡ a → cut_of first-b second-b ≡ b
+    → (one x2 y2 two x3 y3 three : ℕ)
+    → one ≡ least_front (front_of (first-a % 2 ^ 62)) (front_of (first-b % 2 ^ 62))
+    → x2 ≡ behind (first-a % 2 ^ 62) one → y2 ≡ behind (first-b % 2 ^ 62) one
+    → two ≡ least_front (front_of x2) (front_of y2)
+    → x3 ≡ behind x2 two → y3 ≡ behind y2 two
+    → three ≡ least_front (front_of x3) (front_of y3)
+    → Steps a.leaves b.leaves (first-a % 2 ^ 62) (first-b % 2 ^ 62) one x2 y2 two x3 y3 three
+Steps-of a b first-a second-a first-b second-b are-a are-b is-a is-b one x2 y2 two x3 y3 three one-is x2-is y2-is two-is x3-is y3-is three-is = record {
+  x-some = let cut : IsCut a = subst IsCut is-a are-a.cut in cut.some;
+  x-left = AreLeft-of first-a second-a a are-a is-a;
+  y-left = AreLeft-of first-b second-b b are-b is-b;
+  x1-is = packed-of first-a second-a a are-a is-a;
+  y1-is = packed-of first-b second-b b are-b is-b;
+  one-is = one-is;
+  x2-is = x2-is;
+  y2-is = y2-is;
+  two-is = two-is;
+  x3-is = x3-is;
+  y3-is = y3-is;
+  three-is = three-is
+}

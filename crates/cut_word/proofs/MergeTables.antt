@@ -4,13 +4,15 @@ use Rattle.std.proofs.lemmas.Nat.{and_le_l}
 use Rattle.std.proofs.lemmas.List.{map-append, length-map}
 use Rattle.cut_word.specs.Table.{is_set, row_number, value_at, table_of}
 use Rattle.cut_word.specs.Cut.{CutView, IsCut, value_over}
-use Rattle.cut_word.specs.Word.{leaf_of}
+use Rattle.cut_word.specs.Word.{first_word, leaf_of, cut_of, AreOfCut}
 use Rattle.cut_word.specs.Merge.{united, values_at, both_over}
 use Rattle.cut_word.specs.declared.merging.Had.{Had}
 use Rattle.cut_word.specs.declared.merging.Union.{Union}
 use Rattle.cut_word.specs.Steps.{where_had, IsPart, IsUnion}
 use Rattle.cut_word.proofs.Tables.{value_at-more, row_number-below, is_set-and, same_table, table_of-bits, table_of-below}
 use Rattle.cut_word.proofs.Places.{values_at-front, values_at-behind}
+use Rattle.cut_word.proofs.CutLemmas.{IsCut-both}
+use Rattle.cut_word.proofs.WordParts.{AreOfCut-made, cut_of-made}
 use Rattle.cut_word.proofs.Unions.{Rises, Rises-from, Rises-united}
 
 -- a place's three bits, as a row
@@ -161,3 +163,43 @@ both_over-table a b wide-a wide-b union is-a is-b joined fits value-a value-b =
         ∙ ap (λ v. value_over (values_at (leaf_of union.one ++ (leaf_of union.two ++ leaf_of union.three)) place) a && v) (is_set-widened b wide-b union union.b is-b joined.some joined.order rises joined.second value-b place h)
         ∙ ap (λ ls. value_over (values_at ls place) a && value_over (values_at ls place) b) (sym joined.leaves)
         ∙ sym (table_of-bits (λ place. value_over (values_at (united a.leaves b.leaves) place) a && value_over (values_at (united a.leaves b.leaves) place) b) place h))
+
+-- ---- What a merge makes
+length-leaves : (one two three : ℕ) → length (leaf_of one ++ (leaf_of two ++ leaf_of three)) ≤ 3
+length-leaves zero zero zero = omega arith
+length-leaves zero zero (suc r) = omega arith
+length-leaves zero (suc q) zero = omega arith
+length-leaves zero (suc q) (suc r) = omega arith
+length-leaves (suc p) zero zero = omega arith
+length-leaves (suc p) zero (suc r) = omega arith
+length-leaves (suc p) (suc q) zero = omega arith
+length-leaves (suc p) (suc q) (suc r) = omega arith
+
+pub length-union : (xs ys : List ℕ) (union : Union) → IsUnion xs ys union → length (united xs ys) ≤ 3
+length-union xs ys union joined = rw joined.leaves (length-leaves union.one union.two union.three)
+
+pub record IsMade (a b : CutView) (first second : ℕ) : Type 0 where
+  pub few : length (united a.leaves b.leaves) ≤ 3
+  pub are : AreOfCut first second
+  pub is : cut_of first second ≡ both_over (united a.leaves b.leaves) a b
+
+pub both_over-leaves : (leaves : List ℕ) (a b : CutView) → (both_over leaves a b).leaves ≡ leaves
+unfolding both_over
+both_over-leaves leaves a b = refl
+
+pub IsMade-of : (a b : CutView) (word wide-a wide-b : ℕ) (union : Union) → IsCut a → IsCut b → IsUnion a.leaves b.leaves union → wide-a < 256
+    → ((x y z : Bool) → value_at wide-a (x ∷ y ∷ z ∷ []) ≡ value_at a.table (where_had union.a.one (x ∷ []) ++ (where_had union.a.two (y ∷ []) ++ z ∷ [])))
+    → ((x y z : Bool) → value_at wide-b (x ∷ y ∷ z ∷ []) ≡ value_at b.table (where_had union.b.one (x ∷ []) ++ (where_had union.b.two (y ∷ []) ++ z ∷ [])))
+    → word ≡ first_word (leaf_of union.one ++ (leaf_of union.two ++ leaf_of union.three))
+    → IsMade a b word (bit_and wide-a wide-b)
+IsMade-of a b word wide-a wide-b union is-a is-b joined fits value-a value-b word-is =
+    let few : length (united a.leaves b.leaves) ≤ 3 = length-union a.leaves b.leaves union joined in
+    let cut : IsCut (both_over (united a.leaves b.leaves) a b) = IsCut-both a b is-a is-b few in
+    let first : word ≡ first_word (both_over (united a.leaves b.leaves) a b).leaves =
+        word-is ∙ ap first_word (sym joined.leaves ∙ sym (both_over-leaves (united a.leaves b.leaves) a b)) in
+    let second : bit_and wide-a wide-b ≡ (both_over (united a.leaves b.leaves) a b).table = both_over-table a b wide-a wide-b union is-a is-b joined fits value-a value-b in
+    record {
+      few = few;
+      are = AreOfCut-made (both_over (united a.leaves b.leaves) a b) cut word (bit_and wide-a wide-b) first second;
+      is = cut_of-made (both_over (united a.leaves b.leaves) a b) cut word (bit_and wide-a wide-b) first second
+    }

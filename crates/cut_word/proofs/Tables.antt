@@ -185,3 +185,14 @@ value_at-with_second table h false false true = agree_below_at (λ t. is_set (wi
 value_at-with_second table h true false true = agree_below_at (λ t. is_set (with_second t) 5) (λ t. is_set t 3) 256 table refl h
 value_at-with_second table h false true true = agree_below_at (λ t. is_set (with_second t) 6) (λ t. is_set t 2) 256 table refl h
 value_at-with_second table h true true true = agree_below_at (λ t. is_set (with_second t) 7) (λ t. is_set t 3) 256 table refl h
+
+-- Values that are left out count as false.
+pub value_at-two : (table : ℕ) (one two : Bool) → value_at table (one ∷ two ∷ []) ≡ value_at table (one ∷ two ∷ false ∷ [])
+value_at-two table false false = refl
+value_at-two table false true = refl
+value_at-two table true false = refl
+value_at-two table true true = refl
+
+pub value_at-one : (table : ℕ) (one : Bool) → value_at table (one ∷ false ∷ []) ≡ value_at table (one ∷ [])
+value_at-one table false = refl
+value_at-one table true = refl

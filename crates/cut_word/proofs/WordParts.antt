@@ -1,10 +1,12 @@
 -- The parts of a first word.
-use Rattle.std.proofs.Common.{◌≡◌, ◌<◌, ◌≤◌, ◌+◌, ◌*◌, ◌%◌, ◌/◌, ◌^◌, ◌∙◌, ℕ, suc, zero, List, [], ◌∷◌, ◌++◌, length, map, slice_index_or, refl, sym, ap, subst, lit<, arith}
+use mir.Val.{bool_byte}
+use Rattle.std.proofs.Common.{nat_eq, not, ◌-◌, ◌≡◌, ◌<◌, ◌≤◌, ◌+◌, ◌*◌, ◌%◌, ◌/◌, ◌^◌, ◌∙◌, ℕ, suc, zero, List, [], ◌∷◌, ◌++◌, length, map, slice_index_or, refl, sym, ap, subst, lit<, arith}
 use Rattle.std.specs.List.{All}
+use Rattle.std.proofs.lemmas.Bool.{ne_eqb}
 use Rattle.std.proofs.lemmas.List.Elements.{All-head, All-tail}
 use Rattle.cut_word.specs.declared.cut.TheConstants.{LEAF_LIMIT}
 use Rattle.cut_word.specs.Cut.{CutView, IsCut}
-use Rattle.cut_word.specs.Word.{field_at, packed, first_word, leaf_of, leaves_in, cut_of, AreOfCut}
+use Rattle.cut_word.specs.Word.{field_at, packed, first_word, leaf_of, leaves_in, cut_of, AreOfCut, IsWords, padded}
 
 -- the parts of a number that is put together of them
 module _ (w s p q r : ℕ) (is : w ≡ s * 2 ^ 62 + (p * 2 ^ 40 + q * 2 ^ 20 + r)) (p-fits : p < 2 ^ 20) (q-fits : q < 2 ^ 20) (r-fits : r < 2 ^ 20) where
@@ -104,3 +106,42 @@ Parts-of first second are =
       two = first_word-2 (leaves_in first) are.cut.low;
       three = first_word-3 (leaves_in first) are.cut.low
     })
+
+-- Two words are of a cut where they are its words.
+pub AreOfCut-made : (cut : CutView) → IsCut cut → (first second : ℕ) → first ≡ first_word cut.leaves → second ≡ cut.table → AreOfCut first second
+AreOfCut-made cut is first second first-is second-is =
+    let Of : ℕ → ℕ → Type 0 = λ w t. AreOfCut w t in
+    subst (λ (w : ℕ). AreOfCut w second) (sym first-is) (subst (λ (t : ℕ). AreOfCut (first_word cut.leaves) t) (sym second-is) (AreOfCut-words cut is))
+
+pub cut_of-made : (cut : CutView) → IsCut cut → (first second : ℕ) → first ≡ first_word cut.leaves → second ≡ cut.table → cut_of first second ≡ cut
+cut_of-made cut is first second first-is second-is = ap (λ w. cut_of w second) first-is ∙ ap (cut_of (first_word cut.leaves)) second-is ∙ cut_of-words cut is
+
+-- The word of leaves by what stands for each, and by whether there is a second and a third.
+pub first_word-fields : (one two three second third : ℕ) → 0 < one → (two ≡ 0 → three ≡ 0) → second ≡ bool_byte (not (nat_eq two 0)) → third ≡ bool_byte (not (nat_eq three 0)) → (1 + second + third) * 2 ^ 62 + one * 2 ^ 40 + two * 2 ^ 20 + three ≡ first_word (leaf_of one ++ (leaf_of two ++ leaf_of three))
+unfolding first_word packed
+first_word-fields zero two three second third some order e f = absurd (omega arith)
+first_word-fields (suc p) zero zero second third some order e f = omega (arith, e, f)
+first_word-fields (suc p) zero (suc r) second third some order e f = absurd (let none : suc r ≡ 0 = order refl in omega arith)
+first_word-fields (suc p) (suc q) zero second third some order e f = let g : second ≡ 1 = e ∙ ap (λ b. bool_byte (not b)) (ne_eqb (suc q) 0 (λ h. omega arith)) in omega (arith, f)
+first_word-fields (suc p) (suc q) (suc r) second third some order e f =
+    let g : second ≡ 1 = e ∙ ap (λ b. bool_byte (not b)) (ne_eqb (suc q) 0 (λ h. omega arith)) in
+    let h : third ≡ 1 = f ∙ ap (λ b. bool_byte (not b)) (ne_eqb (suc r) 0 (λ k. omega arith)) in
+    omega arith
+
+pub first_word-trivial : (id n : ℕ) → n ≡ id → 2 ^ 62 + (n + 1) * 2 ^ 40 ≡ first_word (id ∷ [])
+unfolding first_word packed
+first_word-trivial id n e = omega arith
+
+pub AreOfCut-from : (first second : ℕ) → IsWords first second → AreOfCut first second
+AreOfCut-from first second (cut, is, first-is, second-is) = AreOfCut-made cut is first second (sym first-is) (sym second-is)
+
+-- Ids of which absent ones are 0, by what stands for the leaves.
+padded-is : (leaves : List ℕ) → length leaves ≤ 3 → (field_at leaves 0 - 1) ∷ (field_at leaves 1 - 1) ∷ (field_at leaves 2 - 1) ∷ [] ≡ padded leaves
+padded-is [] few = refl
+padded-is (x ∷ []) few = let e : suc x - 1 ≡ x = omega arith in rw e refl
+padded-is (x ∷ (y ∷ [])) few = let e : suc x - 1 ≡ x = omega arith in let f : suc y - 1 ≡ y = omega arith in rw (e, f) refl
+padded-is (x ∷ (y ∷ (z ∷ []))) few = let e : suc x - 1 ≡ x = omega arith in let f : suc y - 1 ≡ y = omega arith in let g : suc z - 1 ≡ z = omega arith in rw (e, f, g) refl
+padded-is (x ∷ (y ∷ (z ∷ (u ∷ leaves)))) few = absurd (omega arith)
+
+pub padded-fields : (word : ℕ) (leaves : List ℕ) → length leaves ≤ 3 → Parts word leaves → (word / 2 ^ 40 % 2 ^ 20 - 1) ∷ (word / 2 ^ 20 % 2 ^ 20 - 1) ∷ (word % 2 ^ 20 - 1) ∷ [] ≡ padded leaves
+padded-fields word leaves few parts = rw (parts.one, parts.two, parts.three) (padded-is leaves few)
