@@ -28,11 +28,11 @@ row-fits values (x ∷ (y ∷ (z ∷ (u ∷ leaves)))) few = absurd (omega arith
 pub low-fits : (place n : ℕ) → place < 8 → place % 2 ^ n < 8
 low-fits place n h = let le : place % 2 ^ n ≤ place = mod-le place (2 ^ n) in omega arith
 
-All-has : (P : ℕ → Type 0) (xs : List ℕ) (id : ℕ) → All P xs → Has xs id → P id
+pub All-has : (P : ℕ → Type 0) (xs : List ℕ) (id : ℕ) → All P xs → Has xs id → P id
 All-has P [] id all has = elim has [ ]
 All-has P (x ∷ xs) id all has = elim has [ inl is ↦ subst P is (All-head P x xs all) | inr there ↦ All-has P xs id (All-tail P x xs all) there ]
 
-All-from-has : (P : ℕ → Type 0) (xs : List ℕ) → ((id : ℕ) → Has xs id → P id) → All P xs
+pub All-from-has : (P : ℕ → Type 0) (xs : List ℕ) → ((id : ℕ) → Has xs id → P id) → All P xs
 All-from-has P [] each = λ k d h. absurd (omega arith)
 All-from-has P (x ∷ xs) each = All-cons P x xs (each x (inl refl)) (All-from-has P xs (λ id has. each id (inr has)))
 

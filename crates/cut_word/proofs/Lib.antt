@@ -6,3 +6,4 @@ mod Places
 mod MergeSteps
 pub mod CutLemmas
 mod MergeTables
+mod WordForms

@@ -41,27 +41,27 @@ field_at-fits (leaf ∷ leaves) (suc place) low = field_at-fits leaves place (Al
 
 -- the parts of the first word of these leaves
 module _ (leaves : List ℕ) (low : All (λ leaf. leaf < LEAF_LIMIT) leaves) where
-  first_word-1 : first_word leaves / 2 ^ 40 % 2 ^ 20 ≡ field_at leaves 0
+  pub first_word-1 : first_word leaves / 2 ^ 40 % 2 ^ 20 ≡ field_at leaves 0
   unfolding first_word packed
   first_word-1 = part_1 (first_word leaves) (length leaves) (field_at leaves 0) (field_at leaves 1) (field_at leaves 2) refl (field_at-fits leaves 0 low) (field_at-fits leaves 1 low) (field_at-fits leaves 2 low)
 
-  first_word-2 : first_word leaves / 2 ^ 20 % 2 ^ 20 ≡ field_at leaves 1
+  pub first_word-2 : first_word leaves / 2 ^ 20 % 2 ^ 20 ≡ field_at leaves 1
   unfolding first_word packed
   first_word-2 = part_2 (first_word leaves) (length leaves) (field_at leaves 0) (field_at leaves 1) (field_at leaves 2) refl (field_at-fits leaves 0 low) (field_at-fits leaves 1 low) (field_at-fits leaves 2 low)
 
-  first_word-3 : first_word leaves % 2 ^ 20 ≡ field_at leaves 2
+  pub first_word-3 : first_word leaves % 2 ^ 20 ≡ field_at leaves 2
   unfolding first_word packed
   first_word-3 = part_3 (first_word leaves) (length leaves) (field_at leaves 0) (field_at leaves 1) (field_at leaves 2) refl (field_at-fits leaves 0 low) (field_at-fits leaves 1 low) (field_at-fits leaves 2 low)
 
-  first_word-size : first_word leaves / 2 ^ 62 ≡ length leaves
+  pub first_word-size : first_word leaves / 2 ^ 62 ≡ length leaves
   unfolding first_word packed
   first_word-size = part_size (first_word leaves) (length leaves) (field_at leaves 0) (field_at leaves 1) (field_at leaves 2) refl (field_at-fits leaves 0 low) (field_at-fits leaves 1 low) (field_at-fits leaves 2 low)
 
-  first_word-top : first_word leaves / 2 ^ 60 ≡ 4 * length leaves
+  pub first_word-top : first_word leaves / 2 ^ 60 ≡ 4 * length leaves
   unfolding first_word packed
   first_word-top = part_top (first_word leaves) (length leaves) (field_at leaves 0) (field_at leaves 1) (field_at leaves 2) refl (field_at-fits leaves 0 low) (field_at-fits leaves 1 low) (field_at-fits leaves 2 low)
 
-  first_word-leaves : first_word leaves % 2 ^ 62 ≡ packed leaves
+  pub first_word-leaves : first_word leaves % 2 ^ 62 ≡ packed leaves
   unfolding first_word packed
   first_word-leaves = part_leaves (first_word leaves) (length leaves) (field_at leaves 0) (field_at leaves 1) (field_at leaves 2) refl (field_at-fits leaves 0 low) (field_at-fits leaves 1 low) (field_at-fits leaves 2 low)
 
@@ -145,3 +145,6 @@ padded-is (x ∷ (y ∷ (z ∷ (u ∷ leaves)))) few = absurd (omega arith)
 
 pub padded-fields : (word : ℕ) (leaves : List ℕ) → length leaves ≤ 3 → Parts word leaves → (word / 2 ^ 40 % 2 ^ 20 - 1) ∷ (word / 2 ^ 20 % 2 ^ 20 - 1) ∷ (word % 2 ^ 20 - 1) ∷ [] ≡ padded leaves
 padded-fields word leaves few parts = rw (parts.one, parts.two, parts.three) (padded-is leaves few)
+
+pub Parts-fields : (word : ℕ) (leaves : List ℕ) → Parts word leaves → (word / 2 ^ 40 % 2 ^ 20) ∷ (word / 2 ^ 20 % 2 ^ 20) ∷ (word % 2 ^ 20) ∷ [] ≡ field_at leaves 0 ∷ field_at leaves 1 ∷ field_at leaves 2 ∷ []
+Parts-fields word leaves parts = rw (parts.one, parts.two, parts.three) refl

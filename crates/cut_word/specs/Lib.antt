@@ -1,4 +1,5 @@
 pub mod Cut
+pub mod Forms
 pub mod Laws
 pub mod Merge
 pub mod Steps

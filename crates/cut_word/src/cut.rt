@@ -120,15 +120,12 @@ pub fn negate(c: Cut) -> Cut
 pub fn contains(a: Cut, b: Cut) -> bool
     ensures { IsTrue result ↔ All (λ leaf. Contains a.leaves leaf) b.leaves }
 {
-    let among = fields(a.leaves);
-    let [one, two, three] = fields(b.leaves);
-    is_among(among, one) && is_among(among, two) && is_among(among, three)
+    are_among(&fields(a.leaves), &fields(b.leaves))
 }
 
-// Whether a number stands for one of these leaves, or for none.
-fn is_among(leaves: [u64; 3], leaf: u64) -> bool
-    ensures { IsTrue result ↔ ((leaf ≡ 0) ⊎ Contains leaves leaf) }
+// Whether each of the numbers that stands for a leaf is among the others.
+fn are_among(others: &[u64], numbers: &[u64]) -> bool
+    ensures { IsTrue result ↔ All (λ n. (n ≡ 0) ⊎ Contains others.now n) numbers.now }
 {
-    let [one, two, three] = leaves;
-    leaf == 0 || leaf == one || leaf == two || leaf == three
+    numbers.iter().all(|n| *n == 0 || others.contains(n))
 }

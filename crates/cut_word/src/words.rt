@@ -2,6 +2,7 @@
 
 ghost use Rattle.std.specs.Prelude.{◌≡◌, ◌+◌, ◌-◌, ◌*◌, ◌/◌, ◌%◌, ◌<◌, ◌^◌, ◌↔◌, IsTrue, [], ◌∷◌};
 ghost use Rattle.cut_word.specs.Word.{IsWords};
+ghost use Rattle.cut_word.specs.Forms.{AreSingle, ArePair, AreTriple};
 
 use crate::LEAF_LIMIT;
 
@@ -11,6 +12,9 @@ pub(crate) const PLACE: u64 = 1 << 20;
 pub(crate) const FIRST: u64 = 1 << 40;
 /// The place of the size.
 pub(crate) const SIZE: u64 = 1 << 62;
+
+// What stands for a leaf at most: a leaf is below the limit, and 1 is added.
+const MOST: u64 = LEAF_LIMIT as u64;
 
 // The numbers that stand for the leaves: each leaf plus 1, or 0 where there is none.
 pub(crate) fn fields(word: u64) -> [u64; 3]
@@ -23,13 +27,33 @@ pub(crate) fn fields(word: u64) -> [u64; 3]
 pub(crate) fn are_words(first: u64, second: u64) -> bool
     ensures { IsTrue result ↔ IsWords first second }
 {
-    let most = u64::from(LEAF_LIMIT);
     let [one, two, three] = fields(first);
     // The size with the two bits below it, which are zero.
     match first / (SIZE / 4) {
-        4 => 0 < one && one <= most && two == 0 && three == 0 && second == second % 4 * 0x55,
-        8 => 0 < one && one < two && two <= most && three == 0 && second == second % 16 * 0x11,
-        12 => 0 < one && one < two && two < three && three <= most && second <= 0xFF,
+        4 => is_single(one, two, three, second),
+        8 => is_pair(one, two, three, second),
+        12 => is_triple(one, two, three, second),
         _ => false,
     }
+}
+
+// Whether there is one leaf, and the table is two bits, four times.
+fn is_single(one: u64, two: u64, three: u64, table: u64) -> bool
+    ensures { IsTrue result ↔ AreSingle one two three table }
+{
+    0 < one && one <= MOST && two == 0 && three == 0 && table == table % 4 * 0x55
+}
+
+// Whether there are two leaves, and the table is four bits, twice.
+fn is_pair(one: u64, two: u64, three: u64, table: u64) -> bool
+    ensures { IsTrue result ↔ ArePair one two three table }
+{
+    0 < one && one < two && two <= MOST && three == 0 && table == table % 16 * 0x11
+}
+
+// Whether there are three leaves and eight bits.
+fn is_triple(one: u64, two: u64, three: u64, table: u64) -> bool
+    ensures { IsTrue result ↔ AreTriple one two three table }
+{
+    0 < one && one < two && two < three && three <= MOST && table <= 0xFF
 }
