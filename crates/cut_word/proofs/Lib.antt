@@ -1,9 +1,9 @@
 mod Tables
-
 mod WordParts
 mod Unions
 mod Places
 mod MergeSteps
-pub mod CutLemmas
+pub mod CallerLemmas
 mod MergeTables
 mod WordForms
+mod Examples

@@ -1,8 +1,8 @@
 -- One step of a merge: the lesser of the two leaves in front goes to the union, and each cut that has it goes on behind it.
-use Rattle.std.proofs.Common.{◌≡◌, ◌<◌, ◌≤◌, ◌+◌, ◌*◌, ◌/◌, ◌%◌, ◌^◌, ◌==◌, ◌∙◌, ◌⊎◌, inl, inr, cond, nat_lt, ℕ, zero, suc, Bool, true, false, List, [], ◌∷◌, ◌++◌, length, refl, sym, ap, subst, arith}
+use Rattle.std.proofs.Common.{◌≡◌, ◌<◌, ◌≤◌, ◌*◌, ◌%◌, ◌^◌, ◌==◌, ◌∙◌, inl, inr, cond, nat_lt, ℕ, zero, suc, true, false, List, [], ◌∷◌, ◌++◌, length, refl, sym, ap, subst, arith}
 use Rattle.std.specs.List.{All}
 use Rattle.std.proofs.lemmas.List.Elements.{All-tail}
-use Rattle.std.proofs.lemmas.Bool.{cases_eq, cases_order, cases_Bool, lt-ltb, le-ltb, eqb-true, eq-eqb, ne_eqb}
+use Rattle.std.proofs.lemmas.Bool.{cases_eq, cases_order, lt-ltb, le-ltb, eq-eqb, ne_eqb}
 use Rattle.cut_word.specs.declared.cut.TheConstants.{LEAF_LIMIT}
 use Rattle.cut_word.specs.Cut.{CutView, IsCut}
 use Rattle.cut_word.specs.Word.{field_at, packed, leaf_of, leaves_in, cut_of, AreOfCut}
@@ -32,18 +32,18 @@ rest_of-other x xs leaf other = rw (ne_eqb (suc x) leaf other) refl
 AreLeft-rest_of : (leaves : List ℕ) (leaf : ℕ) → AreLeft leaves → AreLeft (rest_of leaves leaf)
 AreLeft-rest_of [] leaf left = left
 AreLeft-rest_of (x ∷ xs) leaf left = elim (cases_eq (suc x) leaf) [
-    inl same ↦ rw (rest_of-same x xs leaf same) (record { few = let few : length (x ∷ xs) ≤ 3 = left.few in omega arith; rises = left.rises.1; low = All-tail (λ n. n < LEAF_LIMIT) x xs left.low })
+  | inl same ↦ rw (rest_of-same x xs leaf same) (record { few = let few : length (x ∷ xs) ≤ 3 = left.few in omega arith; rises = left.rises.1; low = All-tail (λ n. n < LEAF_LIMIT) x xs left.low })
   | inr other ↦ rw (rest_of-other x xs leaf other) left
-  ]
+]
 
 -- what the list has in front, and behind it
 had : (leaves : List ℕ) (leaf : ℕ) → leaves ≡ where_had (field_at leaves 0 == leaf) (leaf_of leaf) ++ rest_of leaves leaf
 had [] zero = refl
 had [] (suc leaf) = rw (ne_eqb 0 (suc leaf) (λ e. omega arith)) refl
 had (x ∷ xs) leaf = elim (cases_eq (suc x) leaf) [
-    inl same ↦ rw (eq-eqb (suc x) leaf same) (ap (λ n. leaf_of n ++ xs) same)
+  | inl same ↦ rw (eq-eqb (suc x) leaf same) (ap (λ n. leaf_of n ++ xs) same)
   | inr other ↦ rw (ne_eqb (suc x) leaf other) refl
-  ]
+]
 
 -- ---- Words of leaves
 front_of-packed : (leaves : List ℕ) → All (λ leaf. leaf < LEAF_LIMIT) leaves → front_of (packed leaves) ≡ field_at leaves 0
@@ -74,9 +74,9 @@ packed-nothing = refl
 behind-packed : (leaves : List ℕ) (leaf : ℕ) → AreLeft leaves → behind (packed leaves) leaf ≡ packed (rest_of leaves leaf)
 behind-packed [] leaf left = elim (front_of (packed []) == leaf) as (λ b. cond b (packed [] % 2 ^ 40 * 2 ^ 20) (packed []) ≡ packed []) [ true ↦ packed-nothing | false ↦ refl ]
 behind-packed (x ∷ xs) leaf left = elim (cases_eq (suc x) leaf) [
-    inl same ↦ rw (front_of-packed (x ∷ xs) left.low, rest_of-same x xs leaf same, eq-eqb (suc x) leaf same) (packed-tail x xs left.few (All-tail (λ n. n < LEAF_LIMIT) x xs left.low))
+  | inl same ↦ rw (front_of-packed (x ∷ xs) left.low, rest_of-same x xs leaf same, eq-eqb (suc x) leaf same) (packed-tail x xs left.few (All-tail (λ n. n < LEAF_LIMIT) x xs left.low))
   | inr other ↦ rw (front_of-packed (x ∷ xs) left.low, rest_of-other x xs leaf other, ne_eqb (suc x) leaf other) refl
-  ]
+]
 
 packed-empty : packed [] ≡ 0
 unfolding packed
@@ -108,20 +108,20 @@ least_front-fits : (x y : ℕ) → x < 2 ^ 20 → y < 2 ^ 20 → least_front x y
 least_front-fits zero y p q = q
 least_front-fits (suc x) zero p q = rw (alone-front x) p
 least_front-fits (suc x) (suc y) p q = elim (cases_order x y) [
-    inl same ↦ rw (both-front x y same) p
+  | inl same ↦ rw (both-front x y same) p
   | inr (inl below) ↦ rw (first-front x y below) p
   | inr (inr above) ↦ rw (second-front x y above) q
-  ]
+]
 
 least_front-none : (xs ys : List ℕ) → least_front (field_at xs 0) (field_at ys 0) ≡ 0 → (xs ≡ []) × (ys ≡ [])
 least_front-none [] [] e = (refl, refl)
 least_front-none [] (y ∷ ys) e = absurd (omega arith)
 least_front-none (x ∷ xs) [] e = absurd (let f : suc x ≡ 0 = sym (alone-front x) ∙ e in omega arith)
 least_front-none (x ∷ xs) (y ∷ ys) e = absurd (elim (cases_order x y) [
-    inl same ↦ let f : suc x ≡ 0 = sym (both-front x y same) ∙ e in omega arith
+  | inl same ↦ let f : suc x ≡ 0 = sym (both-front x y same) ∙ e in omega arith
   | inr (inl below) ↦ let f : suc x ≡ 0 = sym (first-front x y below) ∙ e in omega arith
   | inr (inr above) ↦ let f : suc y ≡ 0 = sym (second-front x y above) ∙ e in omega arith
-  ])
+])
 
 -- The union begins with the lesser front, and goes on with what is behind.
 step-united : (xs ys : List ℕ) (leaf : ℕ) → Rises xs → Rises ys → least_front (field_at xs 0) (field_at ys 0) ≡ leaf → united xs ys ≡ leaf_of leaf ++ united (rest_of xs leaf) (rest_of ys leaf)
@@ -131,13 +131,13 @@ step-united (x ∷ xs) [] leaf p q e =
     let l : suc x ≡ leaf = sym (alone-front x) ∙ e in
     rw (rest_of-same x xs leaf l, ← l) (united-none (x ∷ xs) p ∙ ap (λ us. x ∷ us) (sym (united-none xs p.1)))
 step-united (x ∷ xs) (y ∷ ys) leaf p q e = elim (cases_order x y) [
-    inl same ↦ let l : suc x ≡ leaf = sym (both-front x y same) ∙ e in
+  | inl same ↦ let l : suc x ≡ leaf = sym (both-front x y same) ∙ e in
       rw (rest_of-same x xs leaf l, rest_of-same y ys leaf (ap suc (sym same) ∙ l), ← l, ← same) (united-both x xs ys p)
   | inr (inl below) ↦ let l : suc x ≡ leaf = sym (first-front x y below) ∙ e in
       rw (rest_of-same x xs leaf l, rest_of-other y ys leaf (λ f. omega arith), ← l) (united-first x xs y ys below p q)
   | inr (inr above) ↦ let l : suc y ≡ leaf = sym (second-front x y above) ∙ e in
       rw (rest_of-other x xs leaf (λ f. omega arith), rest_of-same y ys leaf l, ← l) (united-second x xs y ys above p)
-  ]
+]
 
 -- ---- The step
 pub record Step (x y leaf : ℕ) (xs ys : List ℕ) : Type 0 where
@@ -167,7 +167,7 @@ Step-of x y leaf xs ys p q x-is y-is leaf-is =
       x-behind = ap (λ n. behind n leaf) x-is ∙ behind-packed xs leaf p;
       y-behind = ap (λ n. behind n leaf) y-is ∙ behind-packed ys leaf q;
       x-left = AreLeft-rest_of xs leaf p;
-      y-left = AreLeft-rest_of ys leaf q
+      y-left = AreLeft-rest_of ys leaf q;
     }
 
 append-none : (xs : List ℕ) → xs ++ [] ≡ xs
@@ -196,9 +196,9 @@ length-leaf_of (suc leaf) leaves some = refl
 length-with_leaf : (leaf : ℕ) (leaves : List ℕ) → 0 < length (with_leaf leaf leaves)
 length-with_leaf leaf [] = omega arith
 length-with_leaf leaf (next ∷ leaves) = elim (nat_lt leaf next) as (λ b. 0 < length (cond b (leaf ∷ next ∷ leaves) (cond (leaf == next) (next ∷ leaves) (next ∷ with_leaf leaf leaves)))) [
-    true ↦ omega arith
+  | true ↦ omega arith
   | false ↦ elim (leaf == next) as (λ b. 0 < length (cond b (next ∷ leaves) (next ∷ with_leaf leaf leaves))) [ true ↦ omega arith | false ↦ omega arith ]
-  ]
+]
 
 length-united : (xs ys : List ℕ) → (xs ≡ [] → ys ≡ [] → ⊥) → 0 < length (united xs ys)
 length-united [] [] some = absurd (some refl refl)
@@ -228,10 +228,10 @@ module _ (xs ys : List ℕ) (x1 y1 one x2 y2 two x3 y3 three : ℕ) (s : Steps x
   pub Steps-more : (behind x3 three ≡ 0 → behind y3 three ≡ 0 → ⊥) → 3 < length (united xs ys)
   Steps-more more =
       let left : rest_of (rest_of (rest_of xs one) two) three ≡ [] → rest_of (rest_of (rest_of ys one) two) three ≡ [] → ⊥ =
-          λ no-xs no-ys. more (third.x-behind ∙ ap packed no-xs ∙ packed-empty) (third.y-behind ∙ ap packed no-ys ∙ packed-empty) in
+      λ no-xs no-ys. more (third.x-behind ∙ ap packed no-xs ∙ packed-empty) (third.y-behind ∙ ap packed no-ys ∙ packed-empty) in
       let three-some : three ≡ 0 → ⊥ = λ e. left (ap (λ ns. rest_of ns three) (third.none e).0) (ap (λ ns. rest_of ns three) (third.none e).1) in
       let fourth : 0 < length (united (rest_of (rest_of (rest_of xs one) two) three) (rest_of (rest_of (rest_of ys one) two) three)) =
-          length-united (rest_of (rest_of (rest_of xs one) two) three) (rest_of (rest_of (rest_of ys one) two) three) left in
+      length-united (rest_of (rest_of (rest_of xs one) two) three) (rest_of (rest_of (rest_of ys one) two) three) left in
       rw (unions, length-leaf_of one _ one-some, length-leaf_of two _ (λ e. three-some (two-none e)), length-leaf_of three _ three-some) (omega arith)
 
   -- Where none is left, the three are the union, and each cut has its part of them.
@@ -272,7 +272,7 @@ module _ (xs ys : List ℕ) (x1 y1 one x2 y2 two x3 y3 three : ℕ) (s : Steps x
       two_fits = second.fits;
       three_fits = third.fits;
       first = (front_of x3 == three, rw (a-one, a-two) x-part);
-      second = (front_of y3 == three, rw (b-one, b-two) y-part)
+      second = (front_of y3 == three, rw (b-one, b-two) y-part);
     }
 
 -- The steps over the words of two cuts.
@@ -305,5 +305,5 @@ Steps-of a b first-a second-a first-b second-b are-a are-b is-a is-b one x2 y2 t
   two-is = two-is;
   x3-is = x3-is;
   y3-is = y3-is;
-  three-is = three-is
+  three-is = three-is;
 }

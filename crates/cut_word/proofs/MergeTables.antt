@@ -1,5 +1,5 @@
 -- The table of a merge: a cut's table with a place for each leaf of the union has, at each place, the cut's value there.
-use Rattle.std.proofs.Common.{◌≡◌, ◌<◌, ◌≤◌, ◌+◌, ◌*◌, ◌/◌, ◌%◌, ◌^◌, ◌&&◌, ◌∙◌, ℕ, zero, suc, Bool, true, false, List, [], ◌∷◌, ◌++◌, length, map, refl, sym, ap, subst, bit_and, arith}
+use Rattle.std.proofs.Common.{◌≡◌, ◌<◌, ◌≤◌, ◌/◌, ◌%◌, ◌^◌, ◌&&◌, ◌∙◌, ℕ, zero, suc, Bool, true, false, List, [], ◌∷◌, ◌++◌, length, map, refl, sym, ap, subst, bit_and, arith}
 use Rattle.std.proofs.lemmas.Nat.{and_le_l}
 use Rattle.std.proofs.lemmas.List.{map-append, length-map}
 use Rattle.cut_word.specs.Table.{is_set, row_number, value_at, table_of}
@@ -11,7 +11,7 @@ use Rattle.cut_word.specs.declared.merging.Union.{Union}
 use Rattle.cut_word.specs.Steps.{where_had, IsPart, IsUnion}
 use Rattle.cut_word.proofs.Tables.{value_at-more, row_number-below, is_set-and, same_table, table_of-bits, table_of-below}
 use Rattle.cut_word.proofs.Places.{values_at-front, values_at-behind}
-use Rattle.cut_word.proofs.CutLemmas.{IsCut-both}
+use Rattle.cut_word.proofs.CallerLemmas.{IsCut-both}
 use Rattle.cut_word.proofs.WordParts.{AreOfCut-made, cut_of-made}
 use Rattle.cut_word.proofs.Unions.{Rises, Rises-from, Rises-united}
 
@@ -39,8 +39,8 @@ map-part f one two three xs ys zs =
     map-append f (where_had one xs) (where_had two ys ++ where_had three zs)
     ∙ ap (λ vs. vs ++ map f (where_had two ys ++ where_had three zs)) (map-where_had f one xs)
     ∙ ap (λ vs. where_had one (map f xs) ++ vs) (map-append f (where_had two ys) (where_had three zs)
-      ∙ ap (λ vs. vs ++ map f (where_had three zs)) (map-where_had f two ys)
-      ∙ ap (λ vs. where_had two (map f ys) ++ vs) (map-where_had f three zs))
+    ∙ ap (λ vs. vs ++ map f (where_had three zs)) (map-where_had f two ys)
+    ∙ ap (λ vs. where_had two (map f ys) ++ vs) (map-where_had f three zs))
 
 -- what the widened table reads
 abbrev read_at : Bool → Bool → Bool → Bool → Bool → List Bool
@@ -102,37 +102,37 @@ value_at-read cut zero two three place has_one has_two has_three is some order r
 value_at-read cut (suc p) zero zero place has_one has_two has_three is some order rises part =
     let values : ℕ → Bool = values_at (p ∷ []) place in
     let b : (more : List Bool) × (read_at has_one has_two (is_set place 0) (is_set (place / 2) 0) (is_set (place / 2 / 2) 0) ≡ (where_had has_one (is_set place 0 ∷ []) ++ (where_had has_two [] ++ where_had has_three [])) ++ more) =
-        begins-1 has_one has_two has_three (is_set place 0) (is_set (place / 2) 0) (is_set (place / 2 / 2) 0) in
+    begins-1 has_one has_two has_three (is_set place 0) (is_set (place / 2) 0) (is_set (place / 2 / 2) 0) in
     value_at-begins cut (values_at (p ∷ []) place) _ b.0 _ is
-      (ap (map (values_at (p ∷ []) place)) part ∙ map-part (values_at (p ∷ []) place) has_one has_two has_three (p ∷ []) [] []
-        ∙ ap (λ v. where_had has_one (v ∷ []) ++ (where_had has_two [] ++ where_had has_three [])) (values_at-front p [] place p refl))
-      b.1 (read_at-short has_one has_two _ _ _)
+    (ap (map (values_at (p ∷ []) place)) part ∙ map-part (values_at (p ∷ []) place) has_one has_two has_three (p ∷ []) [] []
+    ∙ ap (λ v. where_had has_one (v ∷ []) ++ (where_had has_two [] ++ where_had has_three [])) (values_at-front p [] place p refl))
+    b.1 (read_at-short has_one has_two _ _ _)
 value_at-read cut (suc p) zero (suc r) place has_one has_two has_three is some order rises part = absurd (let none : suc r ≡ 0 = order refl in omega arith)
 value_at-read cut (suc p) (suc q) zero place has_one has_two has_three is some order rises part =
     let b : (more : List Bool) × (read_at has_one has_two (is_set place 0) (is_set (place / 2) 0) (is_set (place / 2 / 2) 0) ≡ (where_had has_one (is_set place 0 ∷ []) ++ (where_had has_two (is_set (place / 2) 0 ∷ []) ++ where_had has_three [])) ++ more) =
-        begins-2 has_one has_two has_three (is_set place 0) (is_set (place / 2) 0) (is_set (place / 2 / 2) 0) in
+    begins-2 has_one has_two has_three (is_set place 0) (is_set (place / 2) 0) (is_set (place / 2 / 2) 0) in
     let second : values_at (p ∷ q ∷ []) place q ≡ is_set (place / 2) 0 =
-        values_at-behind p (q ∷ []) place q (λ e. let below : p < q = rises.0.0 in omega arith) ∙ values_at-front q [] (place / 2) q refl in
+    values_at-behind p (q ∷ []) place q (λ e. let below : p < q = rises.0.0 in omega arith) ∙ values_at-front q [] (place / 2) q refl in
     value_at-begins cut (values_at (p ∷ q ∷ []) place) _ b.0 _ is
-      (ap (map (values_at (p ∷ q ∷ []) place)) part ∙ map-part (values_at (p ∷ q ∷ []) place) has_one has_two has_three (p ∷ []) (q ∷ []) []
-        ∙ ap (λ v. where_had has_one (v ∷ []) ++ (where_had has_two (values_at (p ∷ q ∷ []) place q ∷ []) ++ where_had has_three [])) (values_at-front p (q ∷ []) place p refl)
-        ∙ ap (λ v. where_had has_one (is_set place 0 ∷ []) ++ (where_had has_two (v ∷ []) ++ where_had has_three [])) second)
-      b.1 (read_at-short has_one has_two _ _ _)
+    (ap (map (values_at (p ∷ q ∷ []) place)) part ∙ map-part (values_at (p ∷ q ∷ []) place) has_one has_two has_three (p ∷ []) (q ∷ []) []
+    ∙ ap (λ v. where_had has_one (v ∷ []) ++ (where_had has_two (values_at (p ∷ q ∷ []) place q ∷ []) ++ where_had has_three [])) (values_at-front p (q ∷ []) place p refl)
+    ∙ ap (λ v. where_had has_one (is_set place 0 ∷ []) ++ (where_had has_two (v ∷ []) ++ where_had has_three [])) second)
+    b.1 (read_at-short has_one has_two _ _ _)
 value_at-read cut (suc p) (suc q) (suc r) place has_one has_two has_three is some order rises part =
     let b : (more : List Bool) × (read_at has_one has_two (is_set place 0) (is_set (place / 2) 0) (is_set (place / 2 / 2) 0) ≡ (where_had has_one (is_set place 0 ∷ []) ++ (where_had has_two (is_set (place / 2) 0 ∷ []) ++ where_had has_three (is_set (place / 2 / 2) 0 ∷ []))) ++ more) =
-        begins-3 has_one has_two has_three (is_set place 0) (is_set (place / 2) 0) (is_set (place / 2 / 2) 0) in
+    begins-3 has_one has_two has_three (is_set place 0) (is_set (place / 2) 0) (is_set (place / 2 / 2) 0) in
     let second : values_at (p ∷ q ∷ r ∷ []) place q ≡ is_set (place / 2) 0 =
-        values_at-behind p (q ∷ r ∷ []) place q (λ e. let below : p < q = rises.0.0 in omega arith) ∙ values_at-front q (r ∷ []) (place / 2) q refl in
+    values_at-behind p (q ∷ r ∷ []) place q (λ e. let below : p < q = rises.0.0 in omega arith) ∙ values_at-front q (r ∷ []) (place / 2) q refl in
     let third : values_at (p ∷ q ∷ r ∷ []) place r ≡ is_set (place / 2 / 2) 0 =
-        values_at-behind p (q ∷ r ∷ []) place r (λ e. let below : p < r = rises.0.1.0 in omega arith)
-        ∙ values_at-behind q (r ∷ []) (place / 2) r (λ e. let below : q < r = rises.1.0.0 in omega arith)
-        ∙ values_at-front r [] (place / 2 / 2) r refl in
+    values_at-behind p (q ∷ r ∷ []) place r (λ e. let below : p < r = rises.0.1.0 in omega arith)
+    ∙ values_at-behind q (r ∷ []) (place / 2) r (λ e. let below : q < r = rises.1.0.0 in omega arith)
+    ∙ values_at-front r [] (place / 2 / 2) r refl in
     value_at-begins cut (values_at (p ∷ q ∷ r ∷ []) place) _ b.0 _ is
-      (ap (map (values_at (p ∷ q ∷ r ∷ []) place)) part ∙ map-part (values_at (p ∷ q ∷ r ∷ []) place) has_one has_two has_three (p ∷ []) (q ∷ []) (r ∷ [])
-        ∙ ap (λ v. where_had has_one (v ∷ []) ++ (where_had has_two (values_at (p ∷ q ∷ r ∷ []) place q ∷ []) ++ where_had has_three (values_at (p ∷ q ∷ r ∷ []) place r ∷ []))) (values_at-front p (q ∷ r ∷ []) place p refl)
-        ∙ ap (λ v. where_had has_one (is_set place 0 ∷ []) ++ (where_had has_two (v ∷ []) ++ where_had has_three (values_at (p ∷ q ∷ r ∷ []) place r ∷ []))) second
-        ∙ ap (λ v. where_had has_one (is_set place 0 ∷ []) ++ (where_had has_two (is_set (place / 2) 0 ∷ []) ++ where_had has_three (v ∷ []))) third)
-      b.1 (read_at-short has_one has_two _ _ _)
+    (ap (map (values_at (p ∷ q ∷ r ∷ []) place)) part ∙ map-part (values_at (p ∷ q ∷ r ∷ []) place) has_one has_two has_three (p ∷ []) (q ∷ []) (r ∷ [])
+    ∙ ap (λ v. where_had has_one (v ∷ []) ++ (where_had has_two (values_at (p ∷ q ∷ r ∷ []) place q ∷ []) ++ where_had has_three (values_at (p ∷ q ∷ r ∷ []) place r ∷ []))) (values_at-front p (q ∷ r ∷ []) place p refl)
+    ∙ ap (λ v. where_had has_one (is_set place 0 ∷ []) ++ (where_had has_two (v ∷ []) ++ where_had has_three (values_at (p ∷ q ∷ r ∷ []) place r ∷ []))) second
+    ∙ ap (λ v. where_had has_one (is_set place 0 ∷ []) ++ (where_had has_two (is_set (place / 2) 0 ∷ []) ++ where_had has_three (v ∷ []))) third)
+    b.1 (read_at-short has_one has_two _ _ _)
 
 -- So a table that is widened has the cut's value at each place,
 pub is_set-widened : (cut : CutView) (table : ℕ) (union : Union) (had : Had) → IsCut cut → 0 < union.one → (union.two ≡ 0 → union.three ≡ 0)
@@ -153,16 +153,16 @@ pub both_over-table : (a b : CutView) (wide-a wide-b : ℕ) (union : Union) → 
 unfolding both_over
 both_over-table a b wide-a wide-b union is-a is-b joined fits value-a value-b =
     let rises : Rises (leaf_of union.one ++ (leaf_of union.two ++ leaf_of union.three)) =
-        subst Rises joined.leaves (Rises-united a.leaves b.leaves (Rises-from b.leaves is-b.ascending)) in
+    subst Rises joined.leaves (Rises-united a.leaves b.leaves (Rises-from b.leaves is-b.ascending)) in
     same_table (bit_and wide-a wide-b) (table_of (λ place. value_over (values_at (united a.leaves b.leaves) place) a && value_over (values_at (united a.leaves b.leaves) place) b))
-      (let le : bit_and wide-a wide-b ≤ wide-a = and_le_l wide-a wide-b in omega arith)
-      (table_of-below (λ place. value_over (values_at (united a.leaves b.leaves) place) a && value_over (values_at (united a.leaves b.leaves) place) b))
-      (λ place h.
-        is_set-and wide-a wide-b place
-        ∙ ap (λ v. v && is_set wide-b place) (is_set-widened a wide-a union union.a is-a joined.some joined.order rises joined.first value-a place h)
-        ∙ ap (λ v. value_over (values_at (leaf_of union.one ++ (leaf_of union.two ++ leaf_of union.three)) place) a && v) (is_set-widened b wide-b union union.b is-b joined.some joined.order rises joined.second value-b place h)
-        ∙ ap (λ ls. value_over (values_at ls place) a && value_over (values_at ls place) b) (sym joined.leaves)
-        ∙ sym (table_of-bits (λ place. value_over (values_at (united a.leaves b.leaves) place) a && value_over (values_at (united a.leaves b.leaves) place) b) place h))
+    (let le : bit_and wide-a wide-b ≤ wide-a = and_le_l wide-a wide-b in omega arith)
+    (table_of-below (λ place. value_over (values_at (united a.leaves b.leaves) place) a && value_over (values_at (united a.leaves b.leaves) place) b))
+    (λ place h.
+    is_set-and wide-a wide-b place
+    ∙ ap (λ v. v && is_set wide-b place) (is_set-widened a wide-a union union.a is-a joined.some joined.order rises joined.first value-a place h)
+    ∙ ap (λ v. value_over (values_at (leaf_of union.one ++ (leaf_of union.two ++ leaf_of union.three)) place) a && v) (is_set-widened b wide-b union union.b is-b joined.some joined.order rises joined.second value-b place h)
+    ∙ ap (λ ls. value_over (values_at ls place) a && value_over (values_at ls place) b) (sym joined.leaves)
+    ∙ sym (table_of-bits (λ place. value_over (values_at (united a.leaves b.leaves) place) a && value_over (values_at (united a.leaves b.leaves) place) b) place h))
 
 -- ---- What a merge makes
 length-leaves : (one two three : ℕ) → length (leaf_of one ++ (leaf_of two ++ leaf_of three)) ≤ 3
@@ -196,10 +196,10 @@ IsMade-of a b word wide-a wide-b union is-a is-b joined fits value-a value-b wor
     let few : length (united a.leaves b.leaves) ≤ 3 = length-union a.leaves b.leaves union joined in
     let cut : IsCut (both_over (united a.leaves b.leaves) a b) = IsCut-both a b is-a is-b few in
     let first : word ≡ first_word (both_over (united a.leaves b.leaves) a b).leaves =
-        word-is ∙ ap first_word (sym joined.leaves ∙ sym (both_over-leaves (united a.leaves b.leaves) a b)) in
+    word-is ∙ ap first_word (sym joined.leaves ∙ sym (both_over-leaves (united a.leaves b.leaves) a b)) in
     let second : bit_and wide-a wide-b ≡ (both_over (united a.leaves b.leaves) a b).table = both_over-table a b wide-a wide-b union is-a is-b joined fits value-a value-b in
     record {
       few = few;
       are = AreOfCut-made (both_over (united a.leaves b.leaves) a b) cut word (bit_and wide-a wide-b) first second;
-      is = cut_of-made (both_over (united a.leaves b.leaves) a b) cut word (bit_and wide-a wide-b) first second
+      is = cut_of-made (both_over (united a.leaves b.leaves) a b) cut word (bit_and wide-a wide-b) first second;
     }

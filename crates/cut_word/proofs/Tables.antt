@@ -1,5 +1,5 @@
 -- Tables: bits of numbers and rows of values. What is said of all tables of eight bits is evaluated at each of them.
-use Rattle.std.proofs.Common.{mul_assoc, ◌≡◌, ◌<◌, ◌≤◌, ◌+◌, ◌-◌, ◌*◌, ◌%◌, ◌/◌, ◌^◌, ◌==◌, ◌&&◌, ◌∙◌, min, ℕ, zero, suc, Bool, true, false, not, List, [], ◌∷◌, ◌++◌, length, map, slice_index_or, refl, sym, ap, bit_and, bit_or, arith}
+use Rattle.std.proofs.Common.{mul_assoc, ◌≡◌, ◌<◌, ◌+◌, ◌-◌, ◌*◌, ◌%◌, ◌/◌, ◌^◌, ◌==◌, ◌&&◌, ◌∙◌, min, ℕ, zero, suc, Bool, true, false, not, List, [], ◌∷◌, ◌++◌, length, map, slice_index_or, refl, sym, ap, bit_and, bit_or, arith}
 use Rattle.std.specs.Bool.{beq}
 use Rattle.std.specs.Int.{bit_at}
 use Rattle.std.proofs.lemmas.Bool.{agree_below, agree_below_at, and_from, eqb-true, eq-eqb}

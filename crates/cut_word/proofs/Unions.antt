@@ -1,5 +1,5 @@
 -- Unions of ascending lists: they are ascending, have what one of both lists has, and begin with the lesser of the two fronts.
-use Rattle.std.proofs.Common.{◌≡◌, ◌<◌, ◌≤◌, ◌+◌, ◌==◌, ◌∙◌, ◌⊎◌, ◌↔◌, inl, inr, cond, nat_lt, ℕ, zero, suc, Bool, true, false, List, [], ◌∷◌, ◌++◌, length, slice_index, slice_index_or, refl, sym, ap, subst, add-one, arith}
+use Rattle.std.proofs.Common.{◌≡◌, ◌<◌, ◌+◌, ◌∙◌, ◌⊎◌, ◌↔◌, inl, inr, ℕ, zero, suc, List, [], ◌∷◌, slice_index, refl, sym, ap, subst, add-one, arith}
 use Rattle.std.specs.List.{Contains}
 use Rattle.std.specs.List.Sorted.{IsStrictlyIncreasing}
 use Rattle.std.proofs.lemmas.Bool.{cases_order, lt-ltb, le-ltb, eq-eqb, ne_eqb}
@@ -76,28 +76,29 @@ with_leaf-front leaf (next ∷ leaves) above = with_leaf-below leaf next leaves 
 AllAbove-with_leaf : (low leaf : ℕ) (leaves : List ℕ) → low < leaf → AllAbove low leaves → AllAbove low (with_leaf leaf leaves)
 AllAbove-with_leaf low leaf [] h above = (h, tt)
 AllAbove-with_leaf low leaf (next ∷ leaves) h above = elim (cases_order leaf next) [
-    inl same ↦ rw (with_leaf-same leaf next leaves same) above
+  | inl same ↦ rw (with_leaf-same leaf next leaves same) above
   | inr (inl below) ↦ rw (with_leaf-below leaf next leaves below) (h, above)
   | inr (inr over) ↦ rw (with_leaf-above leaf next leaves over) (above.0, AllAbove-with_leaf low leaf leaves h above.1)
-  ]
+]
 
 Rises-with_leaf : (leaf : ℕ) (leaves : List ℕ) → Rises leaves → Rises (with_leaf leaf leaves)
 Rises-with_leaf leaf [] rises = (tt, tt)
 Rises-with_leaf leaf (next ∷ leaves) rises = elim (cases_order leaf next) [
-    inl same ↦ rw (with_leaf-same leaf next leaves same) rises
+  | inl same ↦ rw (with_leaf-same leaf next leaves same) rises
   | inr (inl below) ↦ rw (with_leaf-below leaf next leaves below) ((below, AllAbove-lower leaf next leaves below rises.0), rises)
   | inr (inr over) ↦ rw (with_leaf-above leaf next leaves over) (AllAbove-with_leaf next leaf leaves over rises.0, Rises-with_leaf leaf leaves rises.1)
-  ]
+]
 
 Has-with_leaf : (leaf : ℕ) (leaves : List ℕ) (id : ℕ) → Has (with_leaf leaf leaves) id ↔ ((leaf ≡ id) ⊎ Has leaves id)
 Has-with_leaf leaf [] id = (λ has. has, λ has. has)
 Has-with_leaf leaf (next ∷ leaves) id = elim (cases_order leaf next) [
-    inl same ↦ rw (with_leaf-same leaf next leaves same) (λ has. inr has, λ has. elim has [ inl is ↦ inl (sym same ∙ is) | inr there ↦ there ])
+  | inl same ↦ rw (with_leaf-same leaf next leaves same) (λ has. inr has, λ has. elim has [ inl is ↦ inl (sym same ∙ is) | inr there ↦ there ])
   | inr (inl below) ↦ rw (with_leaf-below leaf next leaves below) (λ has. has, λ has. has)
   | inr (inr over) ↦ rw (with_leaf-above leaf next leaves over) (
-      λ has. elim has [ inl is ↦ inr (inl is) | inr more ↦ elim ((Has-with_leaf leaf leaves id).0 more) [ inl is ↦ inl is | inr there ↦ inr (inr there) ] ],
-      λ has. elim has [ inl is ↦ inr ((Has-with_leaf leaf leaves id).1 (inl is)) | inr more ↦ elim more [ inl is ↦ inl is | inr there ↦ inr ((Has-with_leaf leaf leaves id).1 (inr there)) ] ])
-  ]
+    λ has. elim has [ inl is ↦ inr (inl is) | inr more ↦ elim ((Has-with_leaf leaf leaves id).0 more) [ inl is ↦ inl is | inr there ↦ inr (inr there) ] ],
+    λ has. elim has [ inl is ↦ inr ((Has-with_leaf leaf leaves id).1 (inl is)) | inr more ↦ elim more [ inl is ↦ inl is | inr there ↦ inr ((Has-with_leaf leaf leaves id).1 (inr there)) ] ],
+  )
+]
 
 -- ---- Unions
 pub Rises-united : (xs ys : List ℕ) → Rises ys → Rises (united xs ys)
@@ -107,10 +108,12 @@ Rises-united (x ∷ xs) ys rises = Rises-with_leaf x (united xs ys) (Rises-unite
 pub Has-united : (xs ys : List ℕ) (id : ℕ) → Has (united xs ys) id ↔ (Has xs id ⊎ Has ys id)
 Has-united [] ys id = (λ has. inr has, λ has. elim has [ inl none ↦ elim none [ ] | inr there ↦ there ])
 Has-united (x ∷ xs) ys id = (
-    λ has. elim ((Has-with_leaf x (united xs ys) id).0 has) [ inl is ↦ inl (inl is) | inr more ↦ elim ((Has-united xs ys id).0 more) [ inl there ↦ inl (inr there) | inr there ↦ inr there ] ],
-    λ has. (Has-with_leaf x (united xs ys) id).1 (elim has [
-        inl mine ↦ elim mine [ inl is ↦ inl is | inr there ↦ inr ((Has-united xs ys id).1 (inl there)) ]
-      | inr there ↦ inr ((Has-united xs ys id).1 (inr there)) ]))
+  λ has. elim ((Has-with_leaf x (united xs ys) id).0 has) [ inl is ↦ inl (inl is) | inr more ↦ elim ((Has-united xs ys id).0 more) [ inl there ↦ inl (inr there) | inr there ↦ inr there ] ],
+  λ has. (Has-with_leaf x (united xs ys) id).1 (elim has [
+    | inl mine ↦ elim mine [ inl is ↦ inl is | inr there ↦ inr ((Has-united xs ys id).1 (inl there)) ]
+    | inr there ↦ inr ((Has-united xs ys id).1 (inr there))
+  ]),
+)
 
 AllAbove-united : (low : ℕ) (xs ys : List ℕ) → AllAbove low xs → AllAbove low ys → AllAbove low (united xs ys)
 AllAbove-united low [] ys p q = q

@@ -1,6 +1,6 @@
 -- The parts of a first word.
 use mir.Val.{bool_byte}
-use Rattle.std.proofs.Common.{nat_eq, not, ◌-◌, ◌≡◌, ◌<◌, ◌≤◌, ◌+◌, ◌*◌, ◌%◌, ◌/◌, ◌^◌, ◌∙◌, ℕ, suc, zero, List, [], ◌∷◌, ◌++◌, length, map, slice_index_or, refl, sym, ap, subst, lit<, arith}
+use Rattle.std.proofs.Common.{nat_eq, not, ◌-◌, ◌≡◌, ◌<◌, ◌≤◌, ◌+◌, ◌*◌, ◌%◌, ◌/◌, ◌^◌, ◌∙◌, ℕ, suc, zero, List, [], ◌∷◌, ◌++◌, length, refl, sym, ap, subst, arith}
 use Rattle.std.specs.List.{All}
 use Rattle.std.proofs.lemmas.Bool.{ne_eqb}
 use Rattle.std.proofs.lemmas.List.Elements.{All-head, All-tail}
@@ -85,7 +85,7 @@ cut_of-words cut is = let P : List ℕ → CutView = λ leaves. record { leaves 
 pub AreOfCut-words : (cut : CutView) → IsCut cut → AreOfCut (first_word cut.leaves) cut.table
 AreOfCut-words cut is = record {
   cut = subst IsCut (sym (cut_of-words cut is)) is;
-  whole = ap first_word (leaves_in-first_word cut.leaves is.few is.low)
+  whole = ap first_word (leaves_in-first_word cut.leaves is.few is.low);
 }
 
 -- What the words of a cut have in their places.
@@ -104,7 +104,7 @@ Parts-of first second are =
       rest = first_word-leaves (leaves_in first) are.cut.low;
       one = first_word-1 (leaves_in first) are.cut.low;
       two = first_word-2 (leaves_in first) are.cut.low;
-      three = first_word-3 (leaves_in first) are.cut.low
+      three = first_word-3 (leaves_in first) are.cut.low;
     })
 
 -- Two words are of a cut where they are its words.

@@ -1,5 +1,5 @@
 -- The merge of two cuts: all leaves of both, and the conjunction of their values.
-use Rattle.std.specs.Prelude.{ℕ, ◌/◌, ◌==◌, ◌&&◌, nat_lt, nat_le, Bool, true, false, cond, List, [], ◌∷◌, length, Option, Some, None}
+use Rattle.std.specs.Prelude.{ℕ, ◌/◌, ◌==◌, ◌&&◌, nat_lt, nat_le, Bool, false, cond, List, [], ◌∷◌, length, Option, Some, None}
 use Rattle.cut_word.specs.Table.{is_set, table_of}
 use Rattle.cut_word.specs.Cut.{CutView, value_over}
 
@@ -23,7 +23,7 @@ values_at (leaf ∷ leaves) place id = cond (id == leaf) (is_set place 0) (value
 unfoldable pub both_over : List ℕ → CutView → CutView → CutView
 both_over leaves a b = record {
   leaves = leaves;
-  table = table_of (λ place. value_over (values_at leaves place) a && value_over (values_at leaves place) b)
+  table = table_of (λ place. value_over (values_at leaves place) a && value_over (values_at leaves place) b);
 }
 
 -- the merge of two cuts; there is none where the union has more than three leaves

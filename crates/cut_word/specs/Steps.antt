@@ -1,5 +1,5 @@
 -- The steps of a merge: leaves that are left, packed in a word, and which leaves of the union a cut has.
-use Rattle.std.specs.Prelude.{ℕ, ◌≡◌, ◌<◌, ◌*◌, ◌/◌, ◌%◌, ◌^◌, ◌==◌, ◌++◌, Bool, true, false, nat_lt, cond, List, [], ◌∷◌}
+use Rattle.std.specs.Prelude.{ℕ, ◌≡◌, ◌<◌, ◌*◌, ◌/◌, ◌%◌, ◌^◌, ◌==◌, ◌++◌, Bool, true, false, nat_lt, cond, List, []}
 use Rattle.cut_word.specs.declared.merging.Had.{Had}
 use Rattle.cut_word.specs.declared.merging.Union.{Union}
 use Rattle.cut_word.specs.Word.{leaf_of}

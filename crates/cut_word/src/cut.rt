@@ -1,19 +1,32 @@
 //! Cuts of two words.
+//!
+//! ```text
+//! first word   63..62   61..60   59..40   39..20   19..0
+//!               size     zero    leaf 1   leaf 2   leaf 3     each leaf plus 1, ascending; 0: absent
+//! second word  63..8    7..0
+//!               zero    table    bit m: the value where leaf 1 has bit 0 of m, leaf 2 bit 1, leaf 3 bit 2
+//! ```
+//!
+//! A table doesn't depend on absent leaves: over one leaf it is two bits four times, over two leaves four bits twice.
 
-ghost use Rattle.std.specs.Prelude.{IsNone, ◌⊎◌, ◌^◌, ◌-◌, ◌≡◌, ◌<◌, ◌↔◌, ℕ, Bool, not, IsTrue, IfSome, IfNone, All, Contains, length, [], ◌∷◌};
+ghost use Rattle.std.specs.Prelude.{IsSome, ◌⊎◌, ◌^◌, ◌-◌, ◌≡◌, ◌<◌, ◌↔◌, ℕ, Bool, not, IsTrue, IfSome, IfNone, All, Contains, length, [], ◌∷◌};
 ghost use Rattle.cut_word.specs.Cut.{IsCut, value_over, trivial_cut, negated};
 ghost use Rattle.cut_word.specs.Word.{IsWords, first_word, padded};
 
 use crate::words::{FIRST, SIZE, are_words, fields};
 use std::marker::Model;
 
-/// Leaves are ids below this: a leaf has 20 bits of a cut's first word and stands there plus 1, and one number stays free.
+/// Leaves are ids below this: a leaf has 20 bits of a cut's first word and stands there plus 1, and the largest number of 20
+/// bits stays free.
 pub const LEAF_LIMIT: u32 = 1_048_574;
 
-/// A cut.
+/// One to three leaves and a truth table over them. Contracts see the ids of the leaves, ascending, and the table as a number.
+/// Cuts are in the order of their first words, then of their second words.
 #[derive(Clone, Copy, Debug, PartialEq, Eq, PartialOrd, Ord)]
 pub struct Cut {
+    // The first word: the size and the leaves.
     pub(crate) leaves: u64,
+    // The second word.
     pub(crate) table: u64,
 }
 
@@ -34,7 +47,7 @@ impl Model for Cut {
     ghost inverse_ok = { λ c h. rw h.whole refl };
 }
 
-/// The parts of a cut.
+/// The parts of a cut, each in a number of its own.
 #[derive(Clone, Copy, Debug, PartialEq, Eq)]
 pub struct CutParts {
     /// How many leaves there are, 1 to 3.
@@ -45,7 +58,7 @@ pub struct CutParts {
     pub table: u8,
 }
 
-/// The cut of one leaf whose value is the leaf's own.
+/// The cut of one leaf, an id below `LEAF_LIMIT`, whose value is the leaf's own.
 pub fn trivial(id: u32) -> Cut
     requires { id < LEAF_LIMIT }
     ensures value { result ≡ trivial_cut id }
@@ -81,24 +94,28 @@ fn id_of(field: u64) -> u32
     field.saturating_sub(1) as u32
 }
 
-/// The cut of these words. None exactly where the pair is no cut's.
+/// The cut of these words, the first and the second. None exactly where the pair is no cut's.
 pub fn from_words(a: u64, b: u64) -> Option<Cut>
     ensures some { IfSome result (λ cut. (first_word cut.leaves ≡ a) × (cut.table ≡ b)) }
-    ensures none { IsNone result ↔ ¬ IsWords a b }
+    ensures words { IsSome result ↔ IsWords a b }
     ensures cut { IfSome result (λ cut. IsCut cut) }
 {
     if are_words(a, b) {
-        Some(Cut { leaves: a, table: b })
+        Some(Cut {
+            leaves: a,
+            table: b,
+        })
     } else {
         None
     }
 }
 
-/// Its two words.
+/// Its two words, the first and the second.
 pub fn to_words(c: Cut) -> (u64, u64)
     ensures first { result.0 ≡ first_word c.leaves }
     ensures second { result.1 ≡ c.table }
     ensures words { IsWords result.0 result.1 }
+    ensures cut { IsCut c }
 {
     (c.leaves, c.table)
 }

@@ -1,6 +1,16 @@
 //! The laws on cuts. A law takes nothing and does nothing: its clause is the law.
 
+ghost use Rattle.std.specs.Prelude.{◌≡◌};
+ghost use Rattle.cut_word.specs.Cut.{CutView};
+ghost use Rattle.cut_word.specs.Order.{cut_cmp};
 ghost use Rattle.cut_word.specs.Laws.{UnionHasBoth, CutsAreTheirValues, WordsTellCuts, MergeIsRight, NegationIsRight, TrivialCutIsRight};
+
+use crate::Cut;
+
+/// Cuts are in the order of their first words, those of one first word in the order of their tables.
+pub fn order_is_by_words()
+    ensures { (a b : CutView) → ⟦<Cut as Ord>⟧.cmp a b ≡ cut_cmp a b }
+{}
 
 /// The union of two ascending lists of leaves is ascending, and has just the leaves that one of both has.
 pub fn union_has_both()

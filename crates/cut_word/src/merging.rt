@@ -1,4 +1,8 @@
 //! The merge of two cuts.
+//!
+//! Ascending leaves are packed in a word, the least in front. The lesser of the two in front goes to the union, and each cut
+//! that has it goes on behind it; after three such steps nothing may be left. Where a cut lacks the first or the second leaf of
+//! the union, its table is given a place for it; it doesn't depend on a third one that it lacks.
 
 ghost use Rattle.std.specs.Prelude.{◌≡◌, ◌<◌, ◌↔◌, ◌&&◌, ◌/◌, ◌%◌, ◌*◌, ◌+◌, ◌==◌, ◌||◌, ◌^◌, ℕ, Bool, IsNone, IfSome, length, [], ◌∷◌, ◌++◌};
 ghost use Rattle.cut_word.specs.Cut.{IsCut, value_over};
@@ -16,9 +20,7 @@ use crate::words::{FIRST, PLACE, SIZE};
 pub fn merge(a: Cut, b: Cut) -> Option<Cut>
     ensures none { IsNone result ↔ (3 < length (united a.leaves b.leaves)) }
     ensures leaves { IfSome result (λ cut. cut.leaves ≡ united a.leaves b.leaves) }
-    ensures conjunction {
-        IfSome result (λ cut. (values : ℕ → Bool) → value_over values cut ≡ (value_over values a && value_over values b))
-    }
+    ensures conjunction { IfSome result (λ cut. (values : ℕ → Bool) → value_over values cut ≡ (value_over values a && value_over values b)) }
     ensures value { result ≡ merged a b }
     ensures cut { IfSome result (λ cut. IsCut cut) }
 {
@@ -117,10 +119,8 @@ fn word(one: u64, two: u64, three: u64) -> u64
 fn widened(table: u64, has: Had) -> u64
     requires { table < 2 ^ 8 }
     ensures byte { result < 2 ^ 8 }
-    ensures value {
-        (one two three : Bool) → value_at result (one ∷ two ∷ three ∷ [])
-            ≡ value_at table (where_had has.one (one ∷ []) ++ (where_had has.two (two ∷ []) ++ three ∷ []))
-    }
+    ensures value { (one two three : Bool) → value_at result (one ∷ two ∷ three ∷ [])
+        ≡ value_at table (where_had has.one (one ∷ []) ++ (where_had has.two (two ∷ []) ++ three ∷ [])) }
 {
     let table = if has.one { table } else { with_first(table) };
     if has.two { table } else { with_second(table) }

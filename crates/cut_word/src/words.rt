@@ -1,4 +1,4 @@
-//! The first word of a cut by its parts.
+//! The words of a cut by their parts, and which pairs are words of a cut.
 
 ghost use Rattle.std.specs.Prelude.{◌≡◌, ◌+◌, ◌-◌, ◌*◌, ◌/◌, ◌%◌, ◌<◌, ◌^◌, ◌↔◌, IsTrue, [], ◌∷◌};
 ghost use Rattle.cut_word.specs.Word.{IsWords};

@@ -1,5 +1,4 @@
-use Rattle.std.proofs.Common.{◌≡◌, ◌∙◌, ap, sym, subst, refl}
-use Rattle.cut_word.specs.Word.{AreOfCut, IsWords}
+use Rattle.std.proofs.Common.{refl}
 use Rattle.cut_word.proofs.WordParts.{AreOfCut-from}
 use Rattle.cut_word.proofs.cut.from_words.Goals as goal
 

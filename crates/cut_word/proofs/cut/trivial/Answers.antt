@@ -1,7 +1,7 @@
-use Rattle.std.proofs.Common.{◌≡◌, ◌+◌, ◌*◌, ◌∙◌, ap, refl, [], ◌∷◌, arith}
-use Rattle.cut_word.specs.Cut.{CutView, value_over, trivial_cut}
+use Rattle.std.proofs.Common.{◌≡◌, ◌+◌, ◌*◌, ◌∙◌, ap, refl, [], ◌∷◌}
+use Rattle.cut_word.specs.Cut.{value_over, trivial_cut}
 use Rattle.cut_word.specs.Word.{first_word}
-use Rattle.cut_word.proofs.CutLemmas.{IsCut-trivial, value_over-trivial}
+use Rattle.cut_word.proofs.CallerLemmas.{IsCut-trivial, value_over-trivial}
 use Rattle.cut_word.proofs.WordParts.{first_word-trivial, AreOfCut-made, cut_of-made}
 use Rattle.cut_word.proofs.cut.trivial.Goals as goal
 

@@ -1,4 +1,4 @@
-use Rattle.std.proofs.Common.{◌≡◌, ◌-◌, ◌/◌, ◌%◌, ◌∙◌, ◌∷◌, [], ap, sym, length, slice_index_or}
+use Rattle.std.proofs.Common.{◌≡◌, ◌-◌, ◌/◌, ◌%◌, ◌∙◌, ap, length, slice_index_or}
 use Rattle.cut_word.specs.Cut.{CutView}
 use Rattle.cut_word.specs.Word.{leaves_in, padded}
 use Rattle.cut_word.proofs.WordParts.{Parts, Parts-of, padded-fields}

@@ -1,5 +1,5 @@
 use Rattle.std.proofs.Common.{◌∙◌, not, ap}
-use Rattle.cut_word.proofs.CutLemmas.{IsCut-negated, value_over-negated}
+use Rattle.cut_word.proofs.CallerLemmas.{IsCut-negated, value_over-negated}
 use Rattle.cut_word.proofs.laws.negation_is_right.Goals as goal
 
 pub returns : goal.returns

@@ -1,4 +1,4 @@
-use Rattle.cut_word.proofs.CutLemmas.{IsCut-trivial, value_over-trivial}
+use Rattle.cut_word.proofs.CallerLemmas.{IsCut-trivial, value_over-trivial}
 use Rattle.cut_word.proofs.laws.trivial_cut_is_right.Goals as goal
 
 pub returns : goal.returns

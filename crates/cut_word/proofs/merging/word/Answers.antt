@@ -1,5 +1,3 @@
-use Rattle.std.proofs.Common.{◌≡◌, ◌+◌, ◌*◌, ◌<◌, ◌∙◌, nat_eq, not, ℕ, zero, suc, ◌++◌, refl, ap, arith}
-use Rattle.cut_word.specs.Word.{first_word, packed, leaf_of}
 use Rattle.cut_word.proofs.WordParts.{first_word-fields}
 use Rattle.cut_word.proofs.merging.word.Goals as goal
 

@@ -1,19 +1,17 @@
 -- Cuts: which are cuts, what their values are, and that leaves and values, or words, tell them.
-use Rattle.std.proofs.Common.{◌≡◌, ◌<◌, ◌≤◌, ◌+◌, ◌-◌, ◌*◌, ◌/◌, ◌%◌, ◌^◌, ◌==◌, ◌&&◌, ◌∙◌, ◌⊎◌, inl, inr, cond, nat_le, ℕ, zero, suc, Bool, true, false, not, List, [], ◌∷◌, ◌++◌, length, map, Option, Some, None, refl, sym, ap, subst, arith, slice_index_or}
+use Rattle.std.proofs.Common.{◌≡◌, ◌<◌, ◌≤◌, ◌%◌, ◌^◌, ◌&&◌, ◌∙◌, inl, inr, nat_le, ℕ, Bool, true, false, not, List, [], ◌∷◌, length, map, Some, None, refl, sym, ap, subst, arith}
 use Rattle.std.specs.List.{All}
-use Rattle.std.specs.List.Sorted.{IsStrictlyIncreasing}
 use Rattle.std.proofs.Math.Nat.{mod-le}
-use Rattle.std.proofs.lemmas.List.{length-map}
 use Rattle.std.proofs.lemmas.List.Elements.{All-cons, All-head, All-tail}
 use Rattle.std.proofs.lemmas.Bool.{le-leb, lt-leb, leb-true, cases_Bool}
 use Rattle.cut_word.specs.declared.cut.TheConstants.{LEAF_LIMIT}
-use Rattle.cut_word.specs.Table.{is_set, row_number, value_at, table_of}
-use Rattle.cut_word.specs.Cut.{CutView, IsCut, IsRight, value_over, trivial_cut, negated}
+use Rattle.cut_word.specs.Table.{is_set, row_number, value_at}
+use Rattle.cut_word.specs.Cut.{CutView, IsCut, value_over, trivial_cut, negated}
 use Rattle.cut_word.specs.Word.{first_word, leaves_in}
 use Rattle.cut_word.specs.Merge.{united, values_at, both_over, merged}
 use Rattle.cut_word.proofs.Tables.{row_number-below, is_set-complement, table_of-bits, table_of-below, same_table, steady-four_times}
 use Rattle.cut_word.proofs.Places.{map-has, values_at-row_number, row_number-values_at, values_at-low}
-use Rattle.cut_word.proofs.Unions.{Has, Rises, Rises-from, IsStrictlyIncreasing-from, Rises-united, Has-united}
+use Rattle.cut_word.proofs.Unions.{Has, Rises-from, IsStrictlyIncreasing-from, Rises-united, Has-united}
 use Rattle.cut_word.proofs.WordParts.{leaves_in-first_word}
 
 -- The values of up to three leaves are a row of a table of eight bits.
@@ -44,7 +42,7 @@ IsCut-trivial leaf low = record {
   ascending = IsStrictlyIncreasing-from (leaf ∷ []) (tt, tt);
   low = All-from-has (λ n. n < LEAF_LIMIT) (leaf ∷ []) (λ id has. elim has [ inl is ↦ subst (λ n. n < LEAF_LIMIT) is low | inr none ↦ elim none [ ] ]);
   byte = omega arith;
-  steady = steady-four_times 0xAA refl
+  steady = steady-four_times 0xAA refl;
 }
 
 value_at-trivial : (value : Bool) → value_at 0xAA (value ∷ []) ≡ value
@@ -63,9 +61,9 @@ IsCut-negated cut is = record {
   low = is.low;
   byte = omega arith;
   steady = λ place h.
-    is_set-complement cut.table place is.byte h
-    ∙ ap not (is.steady place h)
-    ∙ sym (is_set-complement cut.table (place % 2 ^ length cut.leaves) is.byte (low-fits place (length cut.leaves) h))
+      is_set-complement cut.table place is.byte h
+      ∙ ap not (is.steady place h)
+      ∙ sym (is_set-complement cut.table (place % 2 ^ length cut.leaves) is.byte (low-fits place (length cut.leaves) h));
 }
 
 pub value_over-negated : (values : ℕ → Bool) (cut : CutView) → IsCut cut → value_over values (negated cut) ≡ not (value_over values cut)
@@ -79,9 +77,9 @@ value_over-both leaves a b values few of-a of-b =
     let place : ℕ = row_number (map values leaves) in
     table_of-bits (λ n. value_over (values_at leaves n) a && value_over (values_at leaves n) b) (row_number (map values leaves)) (row-fits values leaves few)
     ∙ ap (λ vs. value_at a.table vs && value_over (values_at leaves (row_number (map values leaves))) b)
-        (map-has (values_at leaves (row_number (map values leaves))) values a.leaves (λ id has. values_at-row_number values leaves id (of-a id has)))
+    (map-has (values_at leaves (row_number (map values leaves))) values a.leaves (λ id has. values_at-row_number values leaves id (of-a id has)))
     ∙ ap (λ vs. value_over values a && value_at b.table vs)
-        (map-has (values_at leaves (row_number (map values leaves))) values b.leaves (λ id has. values_at-row_number values leaves id (of-b id has)))
+    (map-has (values_at leaves (row_number (map values leaves))) values b.leaves (λ id has. values_at-row_number values leaves id (of-b id has)))
 
 pub IsCut-both : (a b : CutView) → IsCut a → IsCut b → length (united a.leaves b.leaves) ≤ 3 → IsCut (both_over (united a.leaves b.leaves) a b)
 unfolding both_over
@@ -90,16 +88,17 @@ IsCut-both a b is-a is-b few = record {
   few = few;
   ascending = IsStrictlyIncreasing-from (united a.leaves b.leaves) (Rises-united a.leaves b.leaves (Rises-from b.leaves is-b.ascending));
   low = All-from-has (λ n. n < LEAF_LIMIT) (united a.leaves b.leaves) (λ id has. elim ((Has-united a.leaves b.leaves id).0 has) [
-      inl mine ↦ All-has (λ n. n < LEAF_LIMIT) a.leaves id is-a.low mine
-    | inr mine ↦ All-has (λ n. n < LEAF_LIMIT) b.leaves id is-b.low mine ]);
+    | inl mine ↦ All-has (λ n. n < LEAF_LIMIT) a.leaves id is-a.low mine
+    | inr mine ↦ All-has (λ n. n < LEAF_LIMIT) b.leaves id is-b.low mine
+  ]);
   byte = table_of-below (λ n. value_over (values_at (united a.leaves b.leaves) n) a && value_over (values_at (united a.leaves b.leaves) n) b);
   steady = λ place h.
-    table_of-bits (λ n. value_over (values_at (united a.leaves b.leaves) n) a && value_over (values_at (united a.leaves b.leaves) n) b) place h
-    ∙ sym (ap (λ vs. value_at a.table vs && value_over (values_at (united a.leaves b.leaves) (place % 2 ^ length (united a.leaves b.leaves))) b)
-        (map-has (values_at (united a.leaves b.leaves) (place % 2 ^ length (united a.leaves b.leaves))) (values_at (united a.leaves b.leaves) place) a.leaves (λ id has. values_at-low (united a.leaves b.leaves) place id))
-    ∙ ap (λ vs. value_over (values_at (united a.leaves b.leaves) place) a && value_at b.table vs)
-        (map-has (values_at (united a.leaves b.leaves) (place % 2 ^ length (united a.leaves b.leaves))) (values_at (united a.leaves b.leaves) place) b.leaves (λ id has. values_at-low (united a.leaves b.leaves) place id)))
-    ∙ sym (table_of-bits (λ n. value_over (values_at (united a.leaves b.leaves) n) a && value_over (values_at (united a.leaves b.leaves) n) b) (place % 2 ^ length (united a.leaves b.leaves)) (low-fits place (length (united a.leaves b.leaves)) h))
+      table_of-bits (λ n. value_over (values_at (united a.leaves b.leaves) n) a && value_over (values_at (united a.leaves b.leaves) n) b) place h
+      ∙ sym (ap (λ vs. value_at a.table vs && value_over (values_at (united a.leaves b.leaves) (place % 2 ^ length (united a.leaves b.leaves))) b)
+      (map-has (values_at (united a.leaves b.leaves) (place % 2 ^ length (united a.leaves b.leaves))) (values_at (united a.leaves b.leaves) place) a.leaves (λ id has. values_at-low (united a.leaves b.leaves) place id))
+      ∙ ap (λ vs. value_over (values_at (united a.leaves b.leaves) place) a && value_at b.table vs)
+      (map-has (values_at (united a.leaves b.leaves) (place % 2 ^ length (united a.leaves b.leaves))) (values_at (united a.leaves b.leaves) place) b.leaves (λ id has. values_at-low (united a.leaves b.leaves) place id)))
+      ∙ sym (table_of-bits (λ n. value_over (values_at (united a.leaves b.leaves) n) a && value_over (values_at (united a.leaves b.leaves) n) b) (place % 2 ^ length (united a.leaves b.leaves)) (low-fits place (length (united a.leaves b.leaves)) h));
 }
   where
     united-some : (xs ys : List ℕ) → 1 ≤ length ys → 1 ≤ length (united xs ys)
@@ -118,9 +117,9 @@ merged-none a b many = rw (lt-leb (length (united a.leaves b.leaves)) 3 many) re
 pub merged-is : (a b cut : CutView) → merged a b ≡ Some cut → (length (united a.leaves b.leaves) ≤ 3) × (both_over (united a.leaves b.leaves) a b ≡ cut)
 unfolding merged
 merged-is a b cut is = elim (cases_Bool (nat_le (length (united a.leaves b.leaves)) 3)) [
-    inl few ↦ let same : Some (both_over (united a.leaves b.leaves) a b) ≡ Some cut = sym (merged-some a b (leb-true (length (united a.leaves b.leaves)) 3 few)) ∙ is in (leb-true (length (united a.leaves b.leaves)) 3 few, cc)
+  | inl few ↦ let same : Some (both_over (united a.leaves b.leaves) a b) ≡ Some cut = sym (merged-some a b (leb-true (length (united a.leaves b.leaves)) 3 few)) ∙ is in (leb-true (length (united a.leaves b.leaves)) 3 few, cc)
   | inr many ↦ absurd (let none : None ≡ Some cut = rw many at is in cc)
-  ]
+]
 
 pub IsCut-merged : (a b cut : CutView) → IsCut a → IsCut b → merged a b ≡ Some cut → IsCut cut
 IsCut-merged a b cut is-a is-b is = let m : (length (united a.leaves b.leaves) ≤ 3) × (both_over (united a.leaves b.leaves) a b ≡ cut) = merged-is a b cut is in subst IsCut m.1 (IsCut-both a b is-a is-b m.0)
@@ -146,10 +145,10 @@ same_cut a b leaves table =
 pub same_cut-values : (a b : CutView) → IsCut a → IsCut b → a.leaves ≡ b.leaves → ((values : ℕ → Bool) → value_over values a ≡ value_over values b) → a ≡ b
 same_cut-values a b is-a is-b leaves same =
     same_cut a b leaves (same_table a.table b.table is-a.byte is-b.byte (λ place h.
-      is_set-value_over a is-a place h
-      ∙ same (values_at a.leaves place)
-      ∙ ap (λ ls. value_over (values_at ls place) b) leaves
-      ∙ sym (is_set-value_over b is-b place h)))
+    is_set-value_over a is-a place h
+    ∙ same (values_at a.leaves place)
+    ∙ ap (λ ls. value_over (values_at ls place) b) leaves
+    ∙ sym (is_set-value_over b is-b place h)))
 
 -- and so are those of the same words.
 pub same_cut-words : (a b : CutView) → IsCut a → IsCut b → first_word a.leaves ≡ first_word b.leaves → a.table ≡ b.table → a ≡ b
