@@ -1,17 +1,17 @@
 -- Cuts: which are cuts, what their values are, and that leaves and values, or words, tell them.
-use Rattle.std.proofs.Common.{◌≡◌, ◌<◌, ◌≤◌, ◌%◌, ◌^◌, ◌&&◌, ◌∙◌, inl, inr, nat_le, ℕ, Bool, true, false, not, List, [], ◌∷◌, length, map, Some, None, refl, sym, ap, subst, arith}
-use Rattle.std.specs.List.{All}
+use Rattle.std.proofs.Common.{IsTrue, ◌↔◌, ◌==◌, ◌≡◌, ◌<◌, ◌≤◌, ◌%◌, ◌^◌, ◌&&◌, ◌∙◌, inl, inr, nat_le, ℕ, Bool, true, false, not, List, [], ◌∷◌, length, map, Some, None, refl, sym, ap, subst, arith}
+use Rattle.std.specs.List.{All, Contains}
 use Rattle.std.proofs.Math.Nat.{mod-le}
 use Rattle.std.proofs.lemmas.List.Elements.{All-cons, All-head, All-tail}
-use Rattle.std.proofs.lemmas.Bool.{le-leb, lt-leb, leb-true, cases_Bool}
+use Rattle.std.proofs.lemmas.Bool.{le-leb, lt-leb, leb-true, cases_Bool, or_cases, or_left, or_right, and_parts, and_from, eqb-true, eq-eqb, false_from_ne_true}
 use Rattle.cut_word.specs.declared.cut.TheConstants.{LEAF_LIMIT}
 use Rattle.cut_word.specs.Table.{is_set, row_number, value_at}
-use Rattle.cut_word.specs.Cut.{CutView, IsCut, value_over, trivial_cut, negated}
+use Rattle.cut_word.specs.Cut.{CutView, IsCut, value_over, trivial_cut, negated, has_leaf, has_all}
 use Rattle.cut_word.specs.Word.{first_word, leaves_in}
 use Rattle.cut_word.specs.Merge.{united, values_at, both_over, merged}
 use Rattle.cut_word.proofs.Tables.{row_number-below, is_set-complement, table_of-bits, table_of-below, same_table, steady-four_times}
 use Rattle.cut_word.proofs.Places.{map-has, values_at-row_number, row_number-values_at, values_at-low}
-use Rattle.cut_word.proofs.Unions.{Has, Rises-from, IsStrictlyIncreasing-from, Rises-united, Has-united}
+use Rattle.cut_word.proofs.Unions.{Has, Rises-from, IsStrictlyIncreasing-from, Rises-united, Has-united, Has-from, Contains-from}
 use Rattle.cut_word.proofs.WordParts.{leaves_in-first_word}
 
 -- The values of up to three leaves are a row of a table of eight bits.
@@ -74,7 +74,6 @@ value_over-negated values cut is = is_set-complement cut.table (row_number (map 
 pub value_over-both : (leaves : List ℕ) (a b : CutView) (values : ℕ → Bool) → length leaves ≤ 3 → ((id : ℕ) → Has a.leaves id → Has leaves id) → ((id : ℕ) → Has b.leaves id → Has leaves id) → value_over values (both_over leaves a b) ≡ (value_over values a && value_over values b)
 unfolding both_over
 value_over-both leaves a b values few of-a of-b =
-    let place : ℕ = row_number (map values leaves) in
     table_of-bits (λ n. value_over (values_at leaves n) a && value_over (values_at leaves n) b) (row_number (map values leaves)) (row-fits values leaves few)
     ∙ ap (λ vs. value_at a.table vs && value_over (values_at leaves (row_number (map values leaves))) b)
     (map-has (values_at leaves (row_number (map values leaves))) values a.leaves (λ id has. values_at-row_number values leaves id (of-a id has)))
@@ -154,3 +153,43 @@ same_cut-values a b is-a is-b leaves same =
 pub same_cut-words : (a b : CutView) → IsCut a → IsCut b → first_word a.leaves ≡ first_word b.leaves → a.table ≡ b.table → a ≡ b
 same_cut-words a b is-a is-b words table =
     same_cut a b (sym (leaves_in-first_word a.leaves is-a.few is-a.low) ∙ ap leaves_in words ∙ leaves_in-first_word b.leaves is-b.few is-b.low) table
+
+-- ---- Containing
+has_leaf-true : (leaves : List ℕ) (id : ℕ) → has_leaf leaves id ≡ true → Has leaves id
+has_leaf-true [] id found = absurd (cc)
+has_leaf-true (leaf ∷ leaves) id found = elim (or_cases (leaf == id) (has_leaf leaves id) found) [
+  | inl here ↦ inl (eqb-true leaf id here)
+  | inr there ↦ inr (has_leaf-true leaves id there)
+]
+
+has_leaf-from : (leaves : List ℕ) (id : ℕ) → Has leaves id → has_leaf leaves id ≡ true
+has_leaf-from [] id has = elim has [ ]
+has_leaf-from (leaf ∷ leaves) id has = elim has [
+  | inl is ↦ or_left (leaf == id) (has_leaf leaves id) (eq-eqb leaf id is)
+  | inr there ↦ or_right (leaf == id) (has_leaf leaves id) (has_leaf-from leaves id there)
+]
+
+has_all-true : (leaves others : List ℕ) → has_all leaves others ≡ true → (id : ℕ) → Has others id → Has leaves id
+has_all-true leaves [] all id has = elim has [ ]
+has_all-true leaves (leaf ∷ others) all id has =
+    let parts : (has_leaf leaves leaf ≡ true) × (has_all leaves others ≡ true) = and_parts (has_leaf leaves leaf) (has_all leaves others) all in
+    elim has [ inl is ↦ subst (Has leaves) is (has_leaf-true leaves leaf parts.0) | inr there ↦ has_all-true leaves others parts.1 id there ]
+
+has_all-from : (leaves others : List ℕ) → ((id : ℕ) → Has others id → Has leaves id) → has_all leaves others ≡ true
+has_all-from leaves [] each = refl
+has_all-from leaves (leaf ∷ others) each =
+    and_from (has_leaf leaves leaf) (has_all leaves others) (has_leaf-from leaves leaf (each leaf (inl refl))) (has_all-from leaves others (λ id has. each id (inr has)))
+
+-- The test is true where each leaf is a leaf of the other.
+pub has_all-decides : (leaves others : List ℕ) → (has_all leaves others ≡ true) ↔ All (λ leaf. Contains leaves leaf) others
+has_all-decides leaves others = (
+  λ all. All-from-has (λ leaf. Contains leaves leaf) others (λ id has. Contains-from leaves id (has_all-true leaves others all id has)),
+  λ each. has_all-from leaves others (λ id has. Has-from leaves id (All-has (λ leaf. Contains leaves leaf) others id each has)),
+)
+
+-- Another test of the same is the same.
+pub has_all-is : (leaves others : List ℕ) (found : Bool) → (IsTrue found ↔ All (λ leaf. Contains leaves leaf) others) → found ≡ has_all leaves others
+has_all-is leaves others found by = elim (cases_Bool found) [
+  | inl is ↦ is ∙ sym ((has_all-decides leaves others).1 (by.0 is))
+  | inr other ↦ other ∙ sym (false_from_ne_true (has_all leaves others) (λ all. let found-is : found ≡ true = by.1 ((has_all-decides leaves others).0 all) in cc))
+]

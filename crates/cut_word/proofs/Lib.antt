@@ -7,3 +7,4 @@ pub mod CallerLemmas
 mod MergeTables
 mod WordForms
 mod Examples
+mod ThreeSteps

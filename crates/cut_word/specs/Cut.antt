@@ -1,5 +1,6 @@
 -- A cut as contracts see it: its leaves and its truth table over them; and when it is right.
-use Rattle.std.specs.Prelude.{ℕ, ◌≡◌, ◌-◌, ◌<◌, ◌≤◌, ◌^◌, ◌%◌, Bool, List, [], ◌∷◌, length, map, All}
+use Rattle.std.specs.Prelude.{ℕ, ◌≡◌, ◌-◌, ◌<◌, ◌≤◌, ◌^◌, ◌%◌, ◌==◌, Bool, List, [], ◌∷◌, length, map, All}
+use Rattle.std.specs.List.{list_any, list_all}
 use Rattle.std.specs.List.Sorted.{IsStrictlyIncreasing}
 use Rattle.cut_word.specs.declared.cut.TheConstants.{LEAF_LIMIT}
 use Rattle.cut_word.specs.Table.{is_set, value_at}
@@ -35,3 +36,11 @@ trivial_cut leaf = record { leaves = leaf ∷ []; table = 0xAA }
 -- the cut of the same leaves with the complement of the table
 abbrev pub negated : CutView → CutView
 negated cut = record { leaves = cut.leaves; table = 0xFF - cut.table }
+
+-- an id is one of these leaves
+abbrev pub has_leaf : List ℕ → ℕ → Bool
+has_leaf leaves id = list_any (λ leaf. leaf == id) leaves
+
+-- each of the other leaves is one of these
+abbrev pub has_all : List ℕ → List ℕ → Bool
+has_all leaves others = list_all (has_leaf leaves) others

@@ -10,7 +10,7 @@
 //! A table doesn't depend on absent leaves: over one leaf it is two bits four times, over two leaves four bits twice.
 
 ghost use Rattle.std.specs.Prelude.{IsSome, ◌⊎◌, ◌^◌, ◌-◌, ◌≡◌, ◌<◌, ◌↔◌, ℕ, Bool, not, IsTrue, IfSome, IfNone, All, Contains, length, [], ◌∷◌};
-ghost use Rattle.cut_word.specs.Cut.{IsCut, value_over, trivial_cut, negated};
+ghost use Rattle.cut_word.specs.Cut.{IsCut, value_over, trivial_cut, negated, has_all};
 ghost use Rattle.cut_word.specs.Word.{IsWords, first_word, padded};
 
 use crate::words::{FIRST, SIZE, are_words, fields};
@@ -135,7 +135,8 @@ pub fn negate(c: Cut) -> Cut
 
 /// Whether each leaf of `b` is a leaf of `a`.
 pub fn contains(a: Cut, b: Cut) -> bool
-    ensures { IsTrue result ↔ All (λ leaf. Contains a.leaves leaf) b.leaves }
+    ensures leaves { IsTrue result ↔ All (λ leaf. Contains a.leaves leaf) b.leaves }
+    ensures value { result ≡ has_all a.leaves b.leaves }
 {
     are_among(&fields(a.leaves), &fields(b.leaves))
 }

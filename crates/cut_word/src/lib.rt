@@ -9,7 +9,7 @@
 //! Promised: `trivial` (`value`, `meaning`), `negate` (`value`, `complement`) and `merge` (`none`, `leaves`, `conjunction`,
 //! `value`) by their meaning: what the cut's value is, whatever the values of the ids. `unpack` (`size`, `leaves`, `table`)
 //! tells the parts; `from_words` (`some`, `words`) and `to_words` (`first`, `second`) undo each other, and only words of a cut
-//! are taken; `contains` says whether each leaf of one cut is one of another. No call takes memory.
+//! are taken; `contains` (`leaves`, `value`) says whether each leaf of one cut is one of another. No call takes memory.
 //! Laws: a cut is its leaves and its values (`cuts_are_their_values`), and its words tell it (`words_tell_cuts`); the union is
 //! what its name says (`union_has_both`); where cuts are right for two functions, the merge is right for the conjunction
 //! (`merge_is_right`), the negation for the complement (`negation_is_right`), and a trivial cut for its leaf

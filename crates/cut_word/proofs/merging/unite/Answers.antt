@@ -1,7 +1,7 @@
 use Rattle.std.proofs.Common.{◌<◌, ◌≤◌, ◌∙◌, refl, sym, length, arith}
 use Rattle.cut_word.specs.Merge.{united}
 use Rattle.cut_word.specs.Steps.{IsUnion}
-use Rattle.cut_word.proofs.MergeSteps.{Steps-of, Steps-more, Steps-whole}
+use Rattle.cut_word.proofs.ThreeSteps.{Steps-of, Steps-more, Steps-whole}
 use Rattle.cut_word.proofs.MergeTables.{length-union}
 use Rattle.cut_word.proofs.merging.unite.Goals as goal
 use Rattle.cut_word.proofs.merging.unite.Goals.{then-behind-ne0-via-then-behind-ne0, then-behind-ne0-via-else-behind-ne0+then-behind-ne0-2}
