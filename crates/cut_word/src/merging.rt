@@ -20,7 +20,8 @@ use crate::words::{FIRST, PLACE, SIZE};
 pub fn merge(a: Cut, b: Cut) -> Option<Cut>
     ensures none { IsNone result ↔ (3 < length (united a.leaves b.leaves)) }
     ensures leaves { IfSome result (λ cut. cut.leaves ≡ united a.leaves b.leaves) }
-    ensures conjunction { IfSome result (λ cut. (values : ℕ → Bool) → value_over values cut ≡ (value_over values a && value_over values b)) }
+    ensures conjunction { IfSome result (λ cut.
+        (values : ℕ → Bool) → value_over values cut ≡ (value_over values a && value_over values b)) }
     ensures value { result ≡ merged a b }
     ensures cut { IfSome result (λ cut. IsCut cut) }
 {
@@ -41,6 +42,7 @@ struct Union {
     b: Had,
 }
 
+// Whether a cut has the first leaf of a union, and the second.
 #[derive(Clone, Copy)]
 struct Had {
     one: bool,

@@ -6,7 +6,7 @@ ghost use Rattle.cut_word.specs.Forms.{AreSingle, ArePair, AreTriple};
 
 use crate::LEAF_LIMIT;
 
-/// One more than a leaf's number can be, which has 20 bits: from a leaf's place to the next one above.
+/// From a leaf's place to the next one above: what stands for a leaf has 20 bits.
 pub(crate) const PLACE: u64 = 1 << 20;
 /// The place of leaf 1.
 pub(crate) const FIRST: u64 = 1 << 40;
