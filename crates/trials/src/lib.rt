@@ -5,8 +5,9 @@
 //! on one large netlist: in a module for each crate that its trials are of, each call that takes memory once, with the
 //! values that it then gives. A trial judges in one assertion, since each is proved to be safe before it runs.
 //!
-//! Shown: `of_net_base`, lists, names and graphs, and how a name is printed; `of_io_edge`, streams of pieces of any size, that fail
-//! in mid-stream, and of std; `of_gate_net`, equal gates and gates without a use; `of_flow_net`, the network of a netlist
+//! Shown: `of_net_base`, lists, names and graphs, and how a name is printed; `of_io_edge`, streams of pieces of any size,
+//! that fail in mid-stream, and of std; `of_blif_model`, names by number, and which designs are regular; `of_blif_lex`, the
+//! logical lines of small texts; `of_gate_net`, equal gates and gates without a use; `of_flow_net`, the network of a netlist
 //! and the DRO count of epochs; `of_dro_chains`, the limit of DROs; `of_pulse_net`, netlists that break each rule, and what
 //! others unfold to; `of_splitters`, chains that can't be laid out, and a netlist of more than 200,000 elements that is laid
 //! out, found valid and unfolded.
