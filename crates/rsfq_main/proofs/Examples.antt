@@ -10,7 +10,7 @@ use Rattle.rsfq_main.specs.declared.design.Design.{Design}
 use Rattle.rsfq_main.specs.declared.design.Table.{Table}
 use Rattle.rsfq_main.specs.declared.fault.Refusal.TheVariants.{NotYet}
 use Rattle.rsfq_main.specs.declared.words.Command.TheVariants.{Map}
-use Rattle.rsfq_main.specs.Words.{phases_in, command_of}
+use Rattle.rsfq_main.specs.Words.{number_in, number_for, command_of}
 use Rattle.rsfq_main.specs.PlainForm.{name_at, names_at, name_line_at, further_name_at, table_at, tables_of, model_line_at, lines_of, plain_design}
 use Rattle.rsfq_main.specs.PlainRules.{is_circuit}
 use Rattle.rsfq_main.specs.DesignValues.{row_matches}
@@ -94,43 +94,43 @@ unfolding model_line_at lines_of plain_design
 empty_text = refl
 
 map_alone : command_of (codes "map" ∷ []) ≡ Some (Map 1)
-unfolding digits phases_in command_of
+unfolding digits number_in number_for command_of
 map_alone = refl
 
 one_phase : command_of (codes "map" ∷ codes "phases=1" ∷ []) ≡ Some (Map 1)
-unfolding digits phases_in command_of
+unfolding digits number_in number_for command_of
 one_phase = refl
 
 sixteen_phases : command_of (codes "map" ∷ codes "phases=16" ∷ []) ≡ Some (Map 16)
-unfolding digits phases_in command_of
+unfolding digits number_in number_for command_of
 sixteen_phases = refl
 
 no_phase : command_of (codes "map" ∷ codes "phases=0" ∷ []) ≡ None
-unfolding digits phases_in command_of
+unfolding digits number_in number_for command_of
 no_phase = refl
 
 too_many_phases : command_of (codes "map" ∷ codes "phases=17" ∷ []) ≡ None
-unfolding digits phases_in command_of
+unfolding digits number_in number_for command_of
 too_many_phases = refl
 
 leading_zero : command_of (codes "map" ∷ codes "phases=01" ∷ []) ≡ None
-unfolding digits phases_in command_of
+unfolding digits number_in number_for command_of
 leading_zero = refl
 
 no_number : command_of (codes "map" ∷ codes "phases=" ∷ []) ≡ None
-unfolding digits phases_in command_of
+unfolding digits number_in number_for command_of
 no_number = refl
 
 two_keys : command_of (codes "map" ∷ codes "phases=1" ∷ codes "phases=1" ∷ []) ≡ None
-unfolding digits phases_in command_of
+unfolding digits number_in number_for command_of
 two_keys = refl
 
 capital : command_of (codes "Map" ∷ []) ≡ None
-unfolding digits phases_in command_of
+unfolding digits number_in number_for command_of
 capital = refl
 
 no_words : command_of [] ≡ None
-unfolding digits phases_in command_of
+unfolding digits number_in number_for command_of
 no_words = refl
 
 -- the netlist of the two tables at one phase

@@ -5,7 +5,7 @@ pub mod PlainTextNames
 pub mod PlainTextTables
 pub mod PlainTexts
 pub mod CircuitNames
-pub mod PhaseWords
+pub mod KeyWords
 pub mod MappingRows
 pub mod MappingSteps
 pub mod MappingPlain

@@ -9,6 +9,7 @@ use crate::fault::{Fault, Refusal};
 use crate::map::map;
 use crate::plain::PlainFault;
 use crate::words::Command;
+use gen_blif::{adder, gen_};
 use net_base::List;
 use std::alloc::Global;
 
@@ -22,6 +23,7 @@ impl Command {
     {
         match self {
             Command::Map(_) => Some(MAX_TEXT_BYTES),
+            Command::Gen(..) | Command::GenAdder(_) => None,
         }
     }
 
@@ -35,6 +37,14 @@ impl Command {
                 Ok(netlist) => Ok(List::from_vec(netlist)),
                 Err(PlainFault::NotPlain) => Err(Refusal::NotYet.fault(alloc)),
                 Err(PlainFault::NoMemory) => Err(Fault::NoMemory),
+            },
+            Command::Gen(seed, tables) => match gen_(alloc, seed, tables) {
+                Ok(text) => Ok(List::from_vec(text)),
+                Err(_) => Err(Fault::NoMemory),
+            },
+            Command::GenAdder(bits) => match adder(alloc, bits) {
+                Ok(text) => Ok(List::from_vec(text)),
+                Err(_) => Err(Fault::NoMemory),
             },
         }
     }

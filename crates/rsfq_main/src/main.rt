@@ -1,18 +1,19 @@
 //! The program `rsfq`: a command's words, a text on standard input, a netlist on standard output.
 //!
 //! `run` does all that the program does, over any source and any sinks; `main` only hands it the real ones. Its clauses
-//! speak of any command, by what `specs/Commands.antt` says of each. Today there is one: `map` takes texts of the plain
-//! form, circuits of AND and NOT tables, at 1 to 16 phases: each table becomes a clocked cell, each signal waits in DROs
-//! until its users' stages, and splitters hand it to all of them.
+//! speak of any command, by what `specs/Commands.antt` says of each. `map` takes texts of the plain form, circuits of AND
+//! and NOT tables, at 1 to 16 phases: each table becomes a clocked cell, each signal waits in DROs until its users' stages,
+//! and splitters hand it to all of them. `gen` reads nothing, and writes the BLIF text of a generated design.
 //!
-//! Promised by `run`: the bytes that it writes are those of the text's netlist, whole on Done and a proper front of them
-//! on WriteFault (`written`); on Done they spell a valid netlist with the design's names, on which for every list of input
-//! rows the value read at each output is the value of the text's tables (`meant`); right words, a text of the form and no
-//! counted fault or stall give Done, or NoMemory (`complete`). Each status has its cause (`usage`, `refused`, `no`,
-//! `asked`, `write_fault`; of a failed read `source`), and leaves the source (`source`, `unread`), the sink (`unwritten`,
-//! `appended`, `sink_counts`) and the notes (`silent`, `noted`, `notes_counts`) as it says. Private steps: `command_of`
-//! (`command`, `in_range`), `plain_design` and the law `plain_texts_are_spelled`, `gates_of` and `gates_keep_values`,
-//! `chained`, `netlist_of` (`value`, `means`), `spelling_of`, each with its one result.
+//! Promised by `run`: the bytes that it writes are those of the command's output, whole on Done and a proper front of them
+//! on WriteFault (`written`); on Done those of `map` spell a valid netlist with the design's names, on which for every
+//! list of input rows the value read at each output is the value of the text's tables (`meant`); right words, a text of
+//! the form and no counted fault or stall give Done, or NoMemory (`complete`). Each status has its cause (`usage`,
+//! `refused`, `no`, `asked`, `write_fault`; of a failed read `source`), and leaves the source (`source`, `unread`), the
+//! sink (`unwritten`, `appended`, `sink_counts`) and the notes (`silent`, `noted`, `notes_counts`) as it says. Private
+//! steps: `command_of` (`command`, `in_range`) and the law `words_spell_numbers`, `plain_design` and the law
+//! `plain_texts_are_spelled`, `gates_of` and `gates_keep_values`, `chained`, `netlist_of` (`value`, `means`),
+//! `spelling_of`, each with its one result.
 //! Only tested, by runs of the program: that memory suffices where it is ample, and `main`'s own lines.
 //! Not promised: that no fewer DROs would do, since the gates have their earliest epochs; that two netlists never have the
 //! same text; the depth of the stack, and time.
@@ -29,6 +30,7 @@ mod clocking;
 mod commands;
 mod design;
 mod fault;
+mod keys;
 mod map;
 mod mapping;
 mod netlist;

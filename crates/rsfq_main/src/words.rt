@@ -1,57 +1,70 @@
 //! The words of the command line, read by hand.
 
-ghost use Rattle.std.specs.Prelude.{◌≡◌, ◌++◌, ◌↔◌, ℕ, Some, IfSome, map, string_bytes, codes, decimal};
-ghost use Rattle.std.specs.Str.{bytes_eq};
+ghost use Rattle.std.specs.Prelude.{◌≡◌, ◌≤◌, IfSome, Option, ℕ, length, map, string_bytes};
+ghost use Rattle.gen_blif.specs.declared.random.TheConstants.{MAX_TABLES};
+ghost use Rattle.gen_blif.specs.declared.ripple_carry.TheConstants.{MAX_BITS};
+ghost use Rattle.phase_rule.specs.declared.level.TheConstants.{MAX_PHASES};
 ghost use Rattle.rsfq_main.specs.Words as spec;
 
-use itoa::Buffer;
-use pulse_net::MAX_PHASES;
+use crate::keys::{Key, words_spell_numbers};
 
 /// What the program is asked to do.
 #[derive(Clone, Copy, Debug, PartialEq, Eq)]
 pub enum Command {
     /// Reads a BLIF text and writes the netlist of its tables. It holds the number of phases, 1 to `MAX_PHASES`.
     Map(u32),
+    /// Writes the BLIF text of a generated design: its seed, and its tables, 1 to `MAX_TABLES`.
+    Gen(u64, u32),
+    /// Writes the BLIF text of an adder of so many bits, 1 to `MAX_BITS`.
+    GenAdder(u32),
 }
 
-// Whether the word gives the key `phases` the number n.
-fn gives_phases(word: &[u8], n: u32) -> bool
-    ensures { result ≡ bytes_eq word.now (codes "phases=" ++ decimal n) }
+// `map`, with the words behind it.
+fn map_of(words: &[String]) -> Option<Command>
+    ensures command { result ≡ spec.map_with (spec.given Key.Phases (map string_bytes words.now)) (map string_bytes words.now) }
+    ensures in_range { IfSome result spec.IsInRange }
 {
-    match word.strip_prefix(b"phases=") {
-        Some(number) => number == Buffer::new().format(n).as_bytes(),
-        None => false,
+    match Key::Phases.given(words) {
+        None if words.is_empty() => Some(Command::Map(1)),
+        Some(phases) if words.len() == 1 => Some(Command::Map(phases as u32)),
+        _ => None,
     }
 }
 
-// The number of phases that the word gives. Each number is tried in its one decimal spelling, so no digits are parsed.
-fn phases_in(word: &[u8]) -> Option<u32>
-    ensures phases { result ≡ spec.phases_in MAX_PHASES word.now }
-    ensures given { (n : ℕ) → result ≡ Some n ↔ spec.GivesPhases word.now n }
+// `gen`, with the words behind it.
+fn gen_of(words: &[String]) -> Option<Command>
+    ensures command { result ≡ spec.gen_with (spec.given Key.Adder (map string_bytes words.now))
+        (spec.given Key.Seed (map string_bytes words.now)) (spec.given Key.Tables (map string_bytes words.now)) (map string_bytes words.now) }
+    ensures in_range { IfSome result spec.IsInRange }
 {
-    let mut most = MAX_PHASES;
-    while most > 0 {
-        if gives_phases(word, most) {
-            return Some(most);
-        }
-        most -= 1;
+    if let Some(bits) = Key::Adder.given(words) {
+        return if words.len() == 1 {
+            Some(Command::GenAdder(bits as u32))
+        } else {
+            None
+        };
     }
-    None
+    let seed = Key::Seed.given(words)?;
+    let tables = Key::Tables.given(words)?;
+    if words.len() == 2 {
+        Some(Command::Gen(seed, tables as u32))
+    } else {
+        None
+    }
 }
 
-/// The command that the words spell, the program's own name not among them: `map` with one phase, or `map phases=N` for
-/// N from 1 to `MAX_PHASES` in decimal without leading zeros. None of all other words.
+/// The command that the words spell, the program's own name not among them: `map`, alone for one phase or with
+/// `phases=N`; `gen` with `seed=S` and `tables=T` in either order, or with `adder=B` alone. None of all other words.
 #[tactic(auto, unfolding(crate::specs::Words::command_of))]
 pub fn command_of(words: &[String]) -> Option<Command>
     ensures command { result ≡ spec.command_of (map string_bytes words.now) }
     ensures in_range { IfSome result spec.IsInRange }
 {
+    // Which words give a key a number, said apart from their reading.
+    words_spell_numbers();
     match words {
-        [command] if command.as_str() == "map" => Some(Command::Map(1)),
-        [command, key] if command.as_str() == "map" => {
-            let n = phases_in(key.as_bytes())?;
-            Some(Command::Map(n))
-        }
+        [command, words @ ..] if command.as_str() == "map" => map_of(words),
+        [command, words @ ..] if command.as_str() == "gen" => gen_of(words),
         _ => None,
     }
 }
