@@ -1,0 +1,11 @@
+pub mod Words
+pub mod Rows
+pub mod Signals
+pub mod State
+pub mod Faults
+pub mod Reading
+pub mod Answers
+pub mod Clean
+pub mod Readers
+pub mod Laws
+pub mod Spelling
