@@ -1,0 +1,4 @@
+pub mod Check
+pub mod Lookup
+pub mod Cycles
+pub mod Levels
