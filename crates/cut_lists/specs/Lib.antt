@@ -1,0 +1,4 @@
+pub mod CutList
+pub mod Laws
+pub mod Rows
+pub mod Steps
