@@ -1,0 +1,4 @@
+pub mod Cores
+pub mod Laws
+pub mod Machine
+pub mod Sound
