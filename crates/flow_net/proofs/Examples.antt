@@ -9,6 +9,7 @@ use Rattle.gate_net.specs.declared.net.GateNet.{GateNet}
 use Rattle.phase_rule.specs.Levels.{levels_of, phases_of}
 use Rattle.flow_net.specs.declared.net.Net.{Net}
 use Rattle.flow_net.specs.declared.net.Flow.{Flow}
+use Rattle.flow_net.specs.declared.net.Epochs.{Epochs}
 use Rattle.flow_net.specs.Network.{network_of}
 use Rattle.flow_net.specs.Epochs.{dro_count, earliest_epochs}
 use Rattle.flow_net.specs.Arcs.{arcs_of}
@@ -160,3 +161,26 @@ flow_at_two-value = refl
 
 dros_at_two-count : dro_count network_at_two (earliest_epochs 2 gates) ≡ 0
 dros_at_two-count = refl
+
+-- Weak duality is sharp here: the flow is worth 1, and the earliest epochs cost 1 DRO. Both its conditions are needed. Epochs
+-- with each gate at 0 aren't balanced, and they cost none; a flow that gives the mirrors nothing isn't full, and is worth more.
+abbrev level_epochs : Epochs
+level_epochs = record { gates = 0 ∷ (0 ∷ []); sink = 0 }
+
+level_epochs-count : dro_count network level_epochs ≡ 0
+level_epochs-count = refl
+
+abbrev greedy : Flow
+greedy = record {
+  pins = record { forward = 1; back = 0 }
+      ∷ (record { forward = 1; back = 0 } ∷ (record { forward = 1; back = 0 } ∷ (record { forward = 1; back = 0 } ∷ [])));
+}
+
+greedy-mirror : out_minus_in network greedy 4 ≡ pos 0
+greedy-mirror = refl
+
+mirror-wants : wants network 4 ≡ negsuc 0
+mirror-wants = refl
+
+greedy-value : flow_value network greedy ≡ pos 4
+greedy-value = refl

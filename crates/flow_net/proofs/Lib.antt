@@ -4,5 +4,9 @@ mod NumberLemmas
 mod BalancedEpochs
 mod Lengths
 mod DriverNumbers
+mod Sums
+mod Potentials
+mod FullFlows
+mod Duality
 pub mod CallerLemmas
 mod Examples
