@@ -13,7 +13,7 @@
 //! `of_gate_net`, equal gates and gates without a use; `of_flow_net`, the network of a netlist and the DRO count of epochs;
 //! `of_dro_chains`, the limit of DROs; `of_pulse_net`, netlists that break each rule, and what others unfold to;
 //! `of_splitters`, chains that can't be laid out, and a netlist of more than 200,000 elements that is laid out, found valid
-//! and unfolded.
+//! and unfolded; `of_gen_blif`, generated texts that are read and ordered.
 //! Promised: nothing. It has no function for others, and no crate stands on it.
 //! Not shown: what a clause says both ways of a call that takes no memory, and what runs of the program show.
 #![tactic(auto)]
@@ -38,6 +38,8 @@ mod of_dro_chains;
 mod of_flow_net;
 #[cfg(test)]
 mod of_gate_net;
+#[cfg(test)]
+mod of_gen_blif;
 #[cfg(test)]
 mod of_io_edge;
 #[cfg(test)]

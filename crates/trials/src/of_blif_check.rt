@@ -55,11 +55,18 @@ fn push_chain(text: &mut Vec<u8>, is_cycle: bool) -> Result<(), NoMemory> {
     text.extend_from_slice(if is_cycle { b"" } else { b".inputs input\n" })
 }
 
-fn push_long_name(text: &mut Vec<u8>, word: &str, bytes: u32) -> Result<(), NoMemory> {
+// A line of a word, a name of so many bytes, and what stands behind it.
+fn push_long_name(
+    text: &mut Vec<u8>,
+    word: &str,
+    bytes: u32,
+    behind: &str,
+) -> Result<(), NoMemory> {
     text.extend_from_slice(word.as_bytes())?;
     for _ in 0..bytes {
         text.push(b'x')?;
     }
+    text.extend_from_slice(behind.as_bytes())?;
     text.extend_from_slice(b"\n")
 }
 
@@ -70,8 +77,8 @@ enum Make {
     Names(&'static str, u32),
     // So many lines of a word and a name.
     Lines(&'static str, u32),
-    // A word with a name of so many bytes.
-    Long(&'static str, u32),
+    // A word with a name of so many bytes, and what stands behind it.
+    Long(&'static str, u32, &'static str),
     // A chain of tables, or a cycle of them.
     Chain(bool),
 }
@@ -80,7 +87,7 @@ fn fill(text: &mut Vec<u8>, how: Make) -> Result<(), NoMemory> {
     match how {
         Make::Names(word, count) => push_names(text, word, count),
         Make::Lines(word, count) => push_lines(text, word, count),
-        Make::Long(word, bytes) => push_long_name(text, word, bytes),
+        Make::Long(word, bytes, behind) => push_long_name(text, word, bytes, behind),
         Make::Chain(is_cycle) => push_chain(text, is_cycle),
     }
 }
@@ -92,7 +99,7 @@ enum Comes {
     Backwards(u32),
 }
 
-static MADE: [(Make, Comes); 20] = [
+static MADE: [(Make, Comes); 24] = [
     (Make::Names(".inputs", 4_096), Comes::Backwards(0)),
     (
         Make::Names(".inputs", 4_097),
@@ -127,27 +134,44 @@ static MADE: [(Make, Comes); 20] = [
         Make::Lines(".names", 65_537),
         Comes::Refusal(Wanted::Line(65_537, "too many tables")),
     ),
-    (Make::Long(".inputs ", 255), Comes::Backwards(0)),
+    (Make::Long(".inputs ", 255, ""), Comes::Backwards(0)),
     (
-        Make::Long(".inputs ", 256),
+        Make::Long(".inputs ", 256, ""),
         Comes::Refusal(Wanted::Line(1, "name too long")),
     ),
     (
-        Make::Long(".outputs ", 256),
+        Make::Long(".outputs ", 256, ""),
         Comes::Refusal(Wanted::Line(1, "name too long")),
     ),
     (
-        Make::Long(".names ", 256),
+        Make::Long(".names ", 256, ""),
         Comes::Refusal(Wanted::Line(1, "name too long")),
     ),
-    (Make::Long(".model ", 255), Comes::Backwards(0)),
+    (Make::Long(".model ", 255, ""), Comes::Backwards(0)),
     (
-        Make::Long(".model ", 256),
+        Make::Long(".model ", 256, ""),
+        Comes::Refusal(Wanted::Line(1, "name too long")),
+    ),
+    // Two faults on one line, in both orders.
+    (
+        Make::Long(".inputs a a ", 256, ""),
+        Comes::Refusal(Wanted::Line(1, "duplicate input")),
+    ),
+    (
+        Make::Long(".inputs ", 256, " a a"),
+        Comes::Refusal(Wanted::Line(1, "name too long")),
+    ),
+    (
+        Make::Long(".outputs a a ", 256, ""),
+        Comes::Refusal(Wanted::Line(1, "duplicate output")),
+    ),
+    (
+        Make::Long(".outputs ", 256, " a a"),
         Comes::Refusal(Wanted::Line(1, "name too long")),
     ),
     // The longest comment that a text has room for.
-    (Make::Long("#", 8_388_606), Comes::Backwards(0)),
-    (Make::Long("\\ #", 8_388_604), Comes::Backwards(0)),
+    (Make::Long("#", 8_388_606, ""), Comes::Backwards(0)),
+    (Make::Long("\\ #", 8_388_604, ""), Comes::Backwards(0)),
     (Make::Chain(false), Comes::Backwards(TABLES)),
     (Make::Chain(true), Comes::Refusal(Wanted::Cycle(2))),
 ];
