@@ -1,0 +1,14 @@
+mod AcceptedDesigns
+mod AcceptedExamples
+mod AcceptedNames
+mod AcceptedOrders
+mod AcceptedTables
+mod RandomExamples
+mod RandomNames
+mod RandomOrder
+mod RandomTexts
+mod RippleCarryExamples
+mod RippleCarryNames
+mod RippleCarryOrder
+mod RippleCarryTables
+mod RippleCarryTexts
