@@ -1,3 +1,4 @@
+pub mod CallerLemmas
 mod Trees
 mod tapped
 mod wires

@@ -1,4 +1,6 @@
+pub mod CallerLemmas
 mod Examples
+mod GraphInputs
 pub mod Places
 pub mod Links
 pub mod Formed
