@@ -1,0 +1,5 @@
+pub mod Formula
+pub mod Laws
+pub mod Least
+pub mod Levels
+pub mod Steps
