@@ -1,0 +1,20 @@
+pub mod CallerLemmas
+mod Candidates
+mod ChoiceExamples
+mod Counts
+mod LeastChoices
+mod NodeChoices
+mod Words
+mod Formulas
+mod Chosen
+mod FormulaLeaves
+mod NodeGates
+mod AllGates
+mod Uses
+mod NeededNodes
+mod CoverLaws
+mod Downwards
+mod WalkSteps
+mod Growth
+mod CoverSteps
+mod CoverExamples
