@@ -1,0 +1,5 @@
+mod ClockChains
+mod CountSteps
+mod NetlistMeans
+mod TextMeans
+mod Causes

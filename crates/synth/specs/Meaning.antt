@@ -1,0 +1,52 @@
+-- What a netlist means: the values that are read on it.
+use Rattle.std.specs.Prelude.{ℕ, Bool, ◌≡◌, ◌<◌, List, length, map, slice_index_or, Ok}
+use Rattle.blif_model.specs.declared.design.Design.{Design}
+use Rattle.blif_model.specs.declared.design.Ordered.{Ordered}
+use Rattle.blif_model.specs.Order.{name_of, table_order}
+use Rattle.blif_model.specs.Values.{signal_value}
+use Rattle.blif_read.specs.Reading.{design_of}
+use Rattle.gate_net.specs.declared.row.End.TheVariants.{Zero}
+use Rattle.gate_net.specs.declared.net.GateNet.{GateNet}
+use Rattle.gate_net.specs.Values.{end_value}
+use Rattle.pulse_net.specs.declared.net.Names.{Names}
+use Rattle.pulse_net.specs.declared.net.PulseNet.{PulseNet}
+use Rattle.pulse_net.specs.Validity.{IsValid}
+use Rattle.pulse_net.specs.Pulses.{value_read}
+use Rattle.pulse_net.specs.Laws.{row_of}
+
+-- the names of a design: of the model, the inputs and the outputs, in order
+abbrev pub names_of : Design → Names
+names_of design = record {
+  model = design.name;
+  inputs = map (name_of design) design.inputs;
+  outputs = map (name_of design) design.outputs;
+}
+
+-- the value of each output, by its place, over a row of input bits
+abbrev pub OutputValues : Type 0
+OutputValues = List Bool → ℕ → Bool
+
+-- the value that the tables of a design give an output
+abbrev pub output_value : Ordered → OutputValues
+output_value ordered bits output = signal_value ordered bits (slice_index_or ordered.design.outputs output 0)
+
+-- the value that gates give an output
+abbrev pub gates_value : GateNet → OutputValues
+gates_value gates bits output = end_value gates bits (slice_index_or gates.outputs output Zero)
+
+-- A netlist means names and values: it is valid, with n phases and these names, and for every list of input rows the value
+-- read at each output for each row is the output's value over that row.
+pub record Means (n : ℕ) (its_names : Names) (value : OutputValues) (net : PulseNet) : Type 0 where
+  pub valid : IsValid net
+  pub phases : net.phases ≡ n
+  pub names : net.names ≡ its_names
+  pub values : (rows : List (List Bool)) (c output : ℕ) → c < length rows → output < length its_names.outputs → value_read net rows output c ≡ value (row_of rows c) output
+
+-- A netlist means a text, with n phases: the text has a design whose tables have an order, and the netlist means its names and
+-- the values of its tables.
+pub record MeansText (n : ℕ) (text : List ℕ) (net : PulseNet) : Type 0 where
+  pub design : Design
+  pub order : List ℕ
+  pub is_read : design_of text ≡ Ok design
+  pub is_ordered : table_order design ≡ Ok order
+  pub means : Means n (names_of design) (output_value (record { design = design; order = order })) net
