@@ -1,97 +1,73 @@
--- Small texts, words and a netlist by hand, with what the definitions say of them by evaluation: a false definition fails here.
-use Rattle.std.proofs.Common.{◌≡◌, ℕ, true, false, List, [], ◌∷◌, Some, None, codes, refl, Err}
+-- Small texts, words and netlists by hand, with what the definitions say of them by evaluation: a false definition fails here.
+use Rattle.std.proofs.Common.{◌≡◌, ℕ, List, [], ◌∷◌, Result, Ok, Err, Some, None, codes, refl}
 use Rattle.std.specs.Fmt.{digits}
+use Rattle.blif_lex.specs.PhysicalLines.{without_carriage_return, without_comment, without_last_blanks, kept, is_joined, content}
+use Rattle.blif_lex.specs.LogicalLines.{tokens_at, line_of, all_from, lines_from}
+use Rattle.blif_read.specs.declared.fault.BlifKind.TheVariants.{RowChar}
+use Rattle.blif_read.specs.Words.{is_unsupported_word, word_of}
+use Rattle.blif_read.specs.State.{with_line}
+use Rattle.blif_read.specs.Faults.{fault_of as line_fault_of}
+use Rattle.blif_read.specs.Reading.{reads, reads_lines, design_of}
 use Rattle.cell_lib.specs.declared.cell.Cell.TheVariants.{Dro, Not, And, Maj}
 use Rattle.flow_net.specs.declared.net.Flow.{Flow}
 use Rattle.pulse_net.specs.declared.net.Element.TheVariants.{Clocked, Split}
 use Rattle.pulse_net.specs.declared.net.Outlet.TheVariants.{Zero, One, Wire}
 use Rattle.pulse_net.specs.declared.net.PulseNet.{PulseNet}
-use Rattle.rsfq_main.specs.declared.design.Design.{Design}
-use Rattle.rsfq_main.specs.declared.design.Table.{Table}
-use Rattle.rsfq_main.specs.declared.fault.Refusal.TheVariants.{NotYet}
-use Rattle.rsfq_main.specs.declared.words.Command.TheVariants.{Map}
+use Rattle.synth.specs.declared.fault.SynthFault.TheVariants.{Blif, TooManyDros}
+use Rattle.synth.specs.declared.made.Made.{Made}
+use Rattle.synth.specs.Synth.{synth_of, no_flow}
+use Rattle.rsfq_main.specs.declared.words.Command.TheVariants.{Map, Bench}
 use Rattle.rsfq_main.specs.Words.{number_in, number_for, command_of}
-use Rattle.rsfq_main.specs.PlainForm.{name_at, names_at, name_line_at, further_name_at, table_at, tables_of, model_line_at, lines_of, plain_design}
-use Rattle.rsfq_main.specs.PlainRules.{is_circuit}
-use Rattle.rsfq_main.specs.DesignValues.{row_matches}
-use Rattle.rsfq_main.specs.Spelling.{line, model_line, header_lines, input_lines, output_lines, spelling_of, no_flow}
+use Rattle.rsfq_main.specs.Spelling.{line, model_line, header_lines, input_lines, output_lines, spelling_of}
+use Rattle.rsfq_main.specs.Summary.{part_lines, size_lines, summary_of}
+use Rattle.rsfq_main.specs.Notes.{note_of}
+use Rattle.rsfq_main.specs.Faults.{Refusal, fault_of, fault_line}
 use Rattle.rsfq_main.specs.Commands.{output_of}
 
--- a table that negates its pin, and one that is the AND of its two
-abbrev pub not_of : List ℕ → List ℕ → Table
-not_of pin target = record { row = false ∷ []; pins = pin ∷ []; target = target }
+-- the note that there is of an output: none, or the refusal's
+abbrev note : Result (List ℕ) Refusal → List ℕ
+note (Ok bytes) = []
+note (Err refusal) = fault_line (fault_of refusal)
 
-abbrev pub and_of : List ℕ → List ℕ → List ℕ → Table
-and_of first second target = record { row = true ∷ true ∷ []; pins = first ∷ second ∷ []; target = target }
+-- the note of `map` over a text that is refused
+unfoldable map_note : List ℕ → List ℕ
+unfolding digits without_carriage_return without_comment without_last_blanks kept is_joined content tokens_at line_of all_from lines_from is_unsupported_word word_of with_line line_fault_of reads reads_lines design_of synth_of
+map_note text = note (output_of (Map 1) text)
 
--- a design with the model t
-abbrev pub design_of : List (List ℕ) → List (List ℕ) → List Table → Design
-design_of inputs outputs tables = record { model = codes "t"; inputs = inputs; outputs = outputs; tables = tables }
+-- a word of BLIF that isn't taken, with its dot
+a_latch : map_note (codes ".model m\n.inputs a\n.outputs f\n.names a f\n.latch a b re clk 0\n") ≡ codes "line 5: unsupported .latch\n"
+unfolding map_note
+a_latch = refl
 
--- f = a and not b, as two tables
-abbrev pub two_tables : Design
-two_tables = design_of (codes "a" ∷ codes "b" ∷ []) (codes "f" ∷ []) (not_of (codes "b") (codes "c") ∷ and_of (codes "a") (codes "c") (codes "f") ∷ [])
+mixed_output : map_note (codes ".model m\n.inputs a\n.outputs f g\n.names a f\n1 1\n0 0\n.names a f\n0 1\n.end\n") ≡ codes "line 6: mixed output\n"
+unfolding map_note
+mixed_output = refl
 
--- the row `11` matches two true pins, and the row `0` a false one; a longer row than its pins, none
-both_true : row_matches (true ∷ true ∷ []) (true ∷ true ∷ []) ≡ true
-both_true = refl
+-- a fault of a line goes before all of the whole text
+duplicate_driver : map_note (codes ".model m\n.inputs a\n.outputs f g\n.names a f\n1 1\n.names a f\n0 1\n.end\n") ≡ codes "duplicate driver f\n"
+unfolding map_note
+duplicate_driver = refl
 
-one_is_false : row_matches (true ∷ true ∷ []) (true ∷ false ∷ []) ≡ false
-one_is_false = refl
+undriven : map_note (codes ".model m\n.inputs a\n.outputs f g\n.names a f\n1 1\n") ≡ codes "undriven g\n"
+unfolding map_note
+undriven = refl
 
-a_false_pin : row_matches (false ∷ []) (false ∷ []) ≡ true
-a_false_pin = refl
+cycle : map_note (codes ".outputs x\n.names y x\n1 1\n.names x y\n1 1\n") ≡ codes "cycle at line 2\n"
+unfolding map_note
+cycle = refl
 
-a_missing_pin : row_matches (true ∷ true ∷ []) (true ∷ []) ≡ false
-a_missing_pin = refl
+row_shape : map_note (codes ".inputs a b\n.outputs f\n.names a b f\n1") ≡ codes "line 4: row shape\n"
+unfolding map_note
+row_shape = refl
 
-text_of_two_tables : plain_design (codes ".model t\n.inputs a b\n.outputs f\n.names b c\n0 1\n.names a c f\n11 1\n.end\n") ≡ Some two_tables
-unfolding name_at names_at name_line_at further_name_at table_at tables_of model_line_at lines_of plain_design is_circuit
-text_of_two_tables = refl
+-- the notes of what is counted, and of a line of several digits
+too_many : note_of (TooManyDros 1048577) ≡ Some (codes "too many dros 1048577\n")
+unfolding digits
+too_many = refl
 
--- an input may be an output, and no table is needed
-text_without_tables : plain_design (codes ".model t\n.inputs a\n.outputs a\n.end\n") ≡ Some (design_of (codes "a" ∷ []) (codes "a" ∷ []) [])
-unfolding name_at names_at name_line_at further_name_at table_at tables_of model_line_at lines_of plain_design is_circuit
-text_without_tables = refl
-
--- both pins of a table may be one signal
-equal_pins : plain_design (codes ".model t\n.inputs a\n.outputs f\n.names a a f\n11 1\n.end\n") ≡ Some (design_of (codes "a" ∷ []) (codes "f" ∷ []) (and_of (codes "a") (codes "a") (codes "f") ∷ []))
-unfolding name_at names_at name_line_at further_name_at table_at tables_of model_line_at lines_of plain_design is_circuit
-equal_pins = refl
-
--- a pin may be an output
-pin_is_output : plain_design (codes ".model t\n.inputs a\n.outputs f g\n.names a f\n0 1\n.names f g\n0 1\n.end\n") ≡ Some (design_of (codes "a" ∷ []) (codes "f" ∷ codes "g" ∷ []) (not_of (codes "a") (codes "f") ∷ not_of (codes "f") (codes "g") ∷ []))
-unfolding name_at names_at name_line_at further_name_at table_at tables_of model_line_at lines_of plain_design is_circuit
-pin_is_output = refl
-
--- two tables may read one signal
-shared_pin : plain_design (codes ".model t\n.inputs a\n.outputs f g\n.names a f\n0 1\n.names a g\n0 1\n.end\n") ≡ Some (design_of (codes "a" ∷ []) (codes "f" ∷ codes "g" ∷ []) (not_of (codes "a") (codes "f") ∷ not_of (codes "a") (codes "g") ∷ []))
-unfolding name_at names_at name_line_at further_name_at table_at tables_of model_line_at lines_of plain_design is_circuit
-shared_pin = refl
-
--- the second table has no user
-unused_target : output_of (Map 1) (codes ".model t\n.inputs a b\n.outputs f\n.names a f\n0 1\n.names b g\n0 1\n.end\n") ≡ Err NotYet
-unfolding name_at names_at name_line_at further_name_at table_at tables_of model_line_at lines_of plain_design is_circuit
-unused_target = refl
-
--- nothing drives the output g
-undriven_output : output_of (Map 1) (codes ".model t\n.inputs a\n.outputs f g\n.names a f\n0 1\n.end\n") ≡ Err NotYet
-unfolding name_at names_at name_line_at further_name_at table_at tables_of model_line_at lines_of plain_design is_circuit
-undriven_output = refl
-
--- the pin g is driven only behind its table
-undriven_pin : output_of (Map 1) (codes ".model t\n.inputs a\n.outputs f\n.names g f\n0 1\n.names a g\n0 1\n.end\n") ≡ Err NotYet
-unfolding name_at names_at name_line_at further_name_at table_at tables_of model_line_at lines_of plain_design is_circuit
-undriven_pin = refl
-
--- the target is an input
-driven_twice : output_of (Map 1) (codes ".model t\n.inputs a b\n.outputs b\n.names a b\n0 1\n.end\n") ≡ Err NotYet
-unfolding name_at names_at name_line_at further_name_at table_at tables_of model_line_at lines_of plain_design is_circuit
-driven_twice = refl
-
-empty_text : output_of (Map 1) [] ≡ Err NotYet
-unfolding model_line_at lines_of plain_design
-empty_text = refl
+a_far_line : note_of (Blif (record { line = 120; kind = RowChar })) ≡ Some (codes "line 120: row character\n")
+unfolding digits
+a_far_line = refl
 
 map_alone : command_of (codes "map" ∷ []) ≡ Some (Map 1)
 unfolding digits number_in number_for command_of
@@ -133,6 +109,26 @@ no_words : command_of [] ≡ None
 unfolding digits number_in number_for command_of
 no_words = refl
 
+bench_of_one_phase : command_of (codes "bench" ∷ codes "tables=2" ∷ codes "seed=0" ∷ []) ≡ Some (Bench 0 2 1)
+unfolding digits number_in number_for command_of
+bench_of_one_phase = refl
+
+bench_of_four_phases : command_of (codes "bench" ∷ codes "phases=4" ∷ codes "seed=7" ∷ codes "tables=500" ∷ []) ≡ Some (Bench 7 500 4)
+unfolding digits number_in number_for command_of
+bench_of_four_phases = refl
+
+bench_without_tables : command_of (codes "bench" ∷ codes "seed=1" ∷ codes "phases=1" ∷ []) ≡ None
+unfolding digits number_in number_for command_of
+bench_without_tables = refl
+
+bench_of_an_adder : command_of (codes "bench" ∷ codes "adder=1" ∷ []) ≡ None
+unfolding digits number_in number_for command_of
+bench_of_an_adder = refl
+
+seed_given_twice : command_of (codes "bench" ∷ codes "seed=1" ∷ codes "tables=1" ∷ codes "seed=1" ∷ []) ≡ None
+unfolding digits number_in number_for command_of
+seed_given_twice = refl
+
 -- the netlist of the two tables at one phase
 abbrev one_phase_net : PulseNet
 one_phase_net =
@@ -148,6 +144,14 @@ one_phase_net =
 spelling_of_one_phase_net : spelling_of one_phase_net no_flow ≡ codes "rsfq 1\nmodel t\nphases 1\nlatency 3\ninput a 0\ninput b 1\ndro 1 0 2\nnot 1 1 3\nand 2 2 3 4\noutput f 4\nend\n"
 unfolding digits line model_line header_lines input_lines output_lines
 spelling_of_one_phase_net = refl
+
+-- the summary of this netlist: its text has 101 bytes, and a DRO 6 junctions, a NOT 9 and an AND 11
+abbrev one_phase_made : Made
+one_phase_made = record { net = one_phase_net; flow = no_flow; tables = 2; nodes = 4; gates = 2; dros = 1; splits = 0; junctions = 26 }
+
+summary_of_one_phase_net : summary_of one_phase_made ≡ codes "tables 2\nnodes 4\ngates 2\ndros 1\nsplits 0\nlatency 3\njunctions 26\nbytes 101\n"
+unfolding digits line model_line header_lines input_lines output_lines part_lines size_lines
+summary_of_one_phase_net = refl
 
 -- every other form of a line: a splitter, an input without a wire, constants, and a flow
 abbrev other_lines : PulseNet

@@ -1,5 +1,5 @@
 -- Numbers of words: the number that is read is the one in whose decimal spelling the bytes stand.
-use Rattle.std.proofs.Common.{◌≡◌, ◌≢◌, ◌≤◌, ◌<◌, ◌^◌, ◌↔◌, ◌&&◌, nat_le, Bool, true, false, ℕ, List, ◌++◌, length, take, drop, Option, Some, None, if◌then◌else◌, codes, decimal, bytes_eq, refl, sym, ap, subst, ◌∙◌, arith}
+use Rattle.std.proofs.Common.{◌≡◌, ◌≢◌, ◌≤◌, ◌<◌, ◌^◌, ◌&&◌, nat_le, Bool, true, false, ℕ, List, ◌++◌, length, take, drop, Option, Some, None, if◌then◌else◌, decimal, bytes_eq, refl, sym, ap, subst, ◌∙◌, arith}
 use Rattle.std.specs.Str.Parse.{digits_value}
 use Rattle.std.proofs.lemmas.Bool.{le-leb, leb-true}
 use Rattle.std.proofs.lemmas.Fmt.{decimal_is_IsNumeral}

@@ -1,51 +1,84 @@
 -- What each command reads, writes and answers. A new command is a new case of each definition here; the clauses of `run` stay.
 use Rattle.std.specs.Prelude.{ℕ, ◌≡◌, Bool, false, List, length, Option, Some, None, Result, Ok, Err, if◌then◌else◌, nat_lt}
+use Rattle.net_base.specs.Answers.{◌>>=◌}
+use Rattle.blif_lex.specs.declared.lines.TheConstants.{MAX_TEXT_BYTES}
+use Rattle.flow_net.specs.declared.net.Flow.{Flow}
+use Rattle.pulse_net.specs.declared.net.PulseNet.{PulseNet}
+use Rattle.synth.specs.declared.fault.SynthFault.{SynthFault}
+use Rattle.synth.specs.declared.made.Made.{Made}
+use Rattle.synth.specs.Meaning.{MeansText}
+use Rattle.synth.specs.Synth.{synth_of}
 use Rattle.gen_blif.specs.Random.{gen_text}
 use Rattle.gen_blif.specs.RippleCarry.{adder_text}
-use Rattle.rsfq_main.specs.declared.design.Design.{Design}
 use Rattle.rsfq_main.specs.declared.words.Command.{Command}
-use Rattle.rsfq_main.specs.declared.words.Command.TheVariants.{Map, Gen, GenAdder}
-use Rattle.rsfq_main.specs.declared.commands.TheConstants.{MAX_TEXT_BYTES}
-use Rattle.rsfq_main.specs.declared.fault.Refusal.{Refusal}
-use Rattle.rsfq_main.specs.declared.fault.Refusal.TheVariants.{TooLong, NotYet}
-use Rattle.rsfq_main.specs.PlainForm.{plain_design}
-use Rattle.rsfq_main.specs.Spelling.{spelling_of, no_flow}
-use Rattle.rsfq_main.specs.Netlist.{netlist_of}
-use Rattle.rsfq_main.specs.Map.{MeansText}
+use Rattle.rsfq_main.specs.declared.words.Command.TheVariants.{Map, Gen, GenAdder, Bench}
+use Rattle.rsfq_main.specs.Faults.{Refusal, TooLong, Synthesis}
+use Rattle.rsfq_main.specs.Spelling.{spelling_of}
+use Rattle.rsfq_main.specs.Summary.{summary_of}
 
 -- the bytes that a command's text has at most; None where it reads no text
 abbrev pub limit_of : Command → Option ℕ
 limit_of (Map n) = Some MAX_TEXT_BYTES
 limit_of (Gen seed tables) = None
 limit_of (GenAdder bits) = None
+limit_of (Bench seed tables n) = None
 
--- the netlist text of a design with n phases; no design is no plain text
-abbrev pub netlist_text : ℕ → Option Design → Result (List ℕ) Refusal
-netlist_text n None = Err NotYet
-netlist_text n (Some design) = Ok (spelling_of (netlist_of n design) no_flow)
+-- the text is longer than the limit
+abbrev pub is_too_long : Option ℕ → List ℕ → Bool
+is_too_long None text = false
+is_too_long (Some limit) text = nat_lt limit (length text)
+
+-- what synthesis says, with its refusals among those of a text
+abbrev pub synthesised : Result Made SynthFault → Result Made Refusal
+synthesised (Ok made) = Ok made
+synthesised (Err fault) = Err (Synthesis fault)
+
+-- what becomes of a text with n phases: one that is too long is refused, and else synthesis says
+abbrev pub netlist_for : ℕ → List ℕ → Result Made Refusal
+netlist_for n text = if is_too_long (Some MAX_TEXT_BYTES) text then Err TooLong else synthesised (synth_of n text)
+
+-- the netlist text of a text, with n phases
+abbrev pub netlist_text : ℕ → List ℕ → Result (List ℕ) Refusal
+netlist_text n text = netlist_for n text >>= λ made. Ok (spelling_of made.net made.flow)
+
+-- the summary of a text's netlist, with n phases
+abbrev pub summary_text : ℕ → List ℕ → Result (List ℕ) Refusal
+summary_text n text = netlist_for n text >>= λ made. Ok (summary_of made)
 
 -- what a command makes of a text within its limit: the bytes of its output, or why there are none
 abbrev pub made_of : Command → List ℕ → Result (List ℕ) Refusal
-made_of (Map n) text = netlist_text n (plain_design text)
+made_of (Map n) text = netlist_text n text
 made_of (Gen seed tables) text = Ok (gen_text seed tables)
 made_of (GenAdder bits) text = Ok (adder_text bits)
+made_of (Bench seed tables n) text = summary_text n (gen_text seed tables)
+
+-- bytes that mean a text, with n phases: they spell a netlist and a flow, and the netlist means the text
+pub record SpellsMeaning (n : ℕ) (text bytes : List ℕ) : Type 0 where
+  pub net : PulseNet
+  pub flow : Flow
+  pub spelled : bytes ≡ spelling_of net flow
+  pub means : MeansText n text net
+
+-- bytes that sum up a text, with n phases: they are the summary of its netlist, and the netlist means the text
+pub record SumsUp (n : ℕ) (text bytes : List ℕ) : Type 0 where
+  pub made : Made
+  pub is_made : synth_of n text ≡ Ok made
+  pub summed : bytes ≡ summary_of made
+  pub means : MeansText n text made.net
 
 -- what the bytes of a command's output mean
 abbrev pub IsMeant : Command → List ℕ → List ℕ → Type 0
-IsMeant (Map n) text bytes = MeansText n text bytes
+IsMeant (Map n) text bytes = SpellsMeaning n text bytes
 IsMeant (Gen seed tables) text bytes = bytes ≡ gen_text seed tables
 IsMeant (GenAdder bits) text bytes = bytes ≡ adder_text bits
+IsMeant (Bench seed tables n) text bytes = SumsUp n (gen_text seed tables) bytes
 
 -- the command asks a question, so that its answer may be no
 abbrev pub IsQuestion : Command → Type 0
 IsQuestion (Map n) = ⊥
 IsQuestion (Gen seed tables) = ⊥
 IsQuestion (GenAdder bits) = ⊥
-
--- the text is longer than the limit
-abbrev pub is_too_long : Option ℕ → List ℕ → Bool
-is_too_long None text = false
-is_too_long (Some limit) text = nat_lt limit (length text)
+IsQuestion (Bench seed tables n) = ⊥
 
 -- the output of a command over a text: its bytes, or why there are none
 abbrev pub output_of : Command → List ℕ → Result (List ℕ) Refusal

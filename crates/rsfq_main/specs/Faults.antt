@@ -1,11 +1,11 @@
 -- The status and the note of what ends a run.
-use Rattle.std.specs.Prelude.{ℕ, List, Result, Ok, Err, codes}
+use Rattle.std.specs.Prelude.{ℕ, List, Option, Some, None, Result, Ok, Err, codes}
+use Rattle.synth.specs.declared.fault.SynthFault.{SynthFault}
 use Rattle.rsfq_main.specs.declared.status.Status.{Status}
 use Rattle.rsfq_main.specs.declared.status.Status.TheVariants as statuses
-use Rattle.rsfq_main.specs.declared.fault.Refusal.{Refusal}
-use Rattle.rsfq_main.specs.declared.fault.Refusal.TheVariants.{TooLong, NotYet}
 use Rattle.rsfq_main.specs.declared.fault.Fault.{Fault}
 use Rattle.rsfq_main.specs.declared.fault.Fault.TheVariants as faults
+use Rattle.rsfq_main.specs.Notes.{note_of}
 
 abbrev pub number_of : Status → ℕ
 number_of statuses.Done = 0
@@ -16,10 +16,20 @@ number_of statuses.WriteFault = 4
 number_of statuses.NoMemory = 5
 number_of statuses.No = 6
 
+-- why there is no output for a text: it is too long, or it has no netlist
+pub data Refusal : Type 0 where
+  TooLong : Refusal
+  Synthesis : SynthFault → Refusal
+
+-- the fault of a note, and want of memory where there is none
+abbrev pub noted : Option (List ℕ) → Fault
+noted None = faults.NoMemory
+noted (Some note) = faults.Refused note
+
 -- the fault that a refusal ends a run with; but for a text that is too long it has brought its note
 abbrev pub fault_of : Refusal → Fault
 fault_of TooLong = faults.TooLong
-fault_of NotYet = faults.Refused (codes "not yet\n")
+fault_of (Synthesis fault) = noted (note_of fault)
 
 abbrev pub fault_status : Fault → Status
 fault_status faults.Usage = statuses.Usage

@@ -1,11 +1,10 @@
 -- What comes of the words and the text before anything is written.
 use Rattle.std.specs.Prelude.{ℕ, ◌≡◌, List, [], Option, Some, None, Result, Ok, Err, IfSome, true, false}
 use Rattle.rsfq_main.specs.declared.words.Command.{Command}
-use Rattle.rsfq_main.specs.declared.fault.Refusal.{Refusal}
 use Rattle.rsfq_main.specs.declared.fault.Fault.{Fault}
 use Rattle.rsfq_main.specs.declared.fault.Fault.TheVariants.{Usage, Read, TooLong, Write, NoMemory}
 use Rattle.rsfq_main.specs.Commands.{limit_of, is_too_long, made_of, output_of, IsMeant}
-use Rattle.rsfq_main.specs.Faults.{fault_of}
+use Rattle.rsfq_main.specs.Faults.{Refusal, fault_of}
 
 -- the text that a command goes by, where it is known: what the source tells, or nothing where none is read
 abbrev pub text_for : Option ℕ → Option (List ℕ) → Option (List ℕ)
@@ -26,11 +25,16 @@ abbrev pub OverText : Option Command → Option (List ℕ) → (Command → List
 OverText None left holds = Unit {0}
 OverText (Some command) left holds = IfSome (text_for (limit_of command) left) (holds command)
 
--- What a command makes of a text, unless memory ran out: the bytes, which mean what they should, or the fault of the refusal.
+-- A call answers for a definition that may refuse, unless memory ran out: with what it defines, which means what it should, or
+-- with the fault of the refusal.
+abbrev pub Answers : {A : Type 0} → Result A Refusal → (A → Type 0) → Result A Fault → Type 0
+Answers defined means (Ok answer) = (defined ≡ Ok answer) × means answer
+Answers defined means (Err NoMemory) = Unit {0}
+Answers defined means (Err fault) = (refusal : Refusal) × (fault ≡ fault_of refusal) × (defined ≡ Err refusal)
+
+-- what a command makes of a text: the bytes, or the fault of the refusal
 abbrev pub IsMade : Command → List ℕ → Result (List ℕ) Fault → Type 0
-IsMade command text (Ok bytes) = (made_of command text ≡ Ok bytes) × IsMeant command text bytes
-IsMade command text (Err NoMemory) = Unit {0}
-IsMade command text (Err fault) = (refusal : Refusal) × (fault ≡ fault_of refusal) × (made_of command text ≡ Err refusal)
+IsMade command text result = Answers (made_of command text) (IsMeant command text) result
 
 -- The outcome of the words, given what the source tells at the start: no command is a fault of use; of a command there are
 -- the output, which means what it should, or the fault of the text's refusal, unless a read failed or memory ran out.

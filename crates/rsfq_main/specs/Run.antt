@@ -5,10 +5,9 @@ use Rattle.io_edge.specs.Sink.{Gains}
 use Rattle.rsfq_main.specs.declared.words.Command.{Command}
 use Rattle.rsfq_main.specs.declared.status.Status.{Status}
 use Rattle.rsfq_main.specs.declared.status.Status.TheVariants.{Done, Refused, Usage, ReadFault, WriteFault, NoMemory}
-use Rattle.rsfq_main.specs.declared.fault.Refusal.{Refusal}
 use Rattle.rsfq_main.specs.declared.fault.Fault.TheVariants as faults
 use Rattle.rsfq_main.specs.Commands.{limit_of, output_of, IsQuestion}
-use Rattle.rsfq_main.specs.Faults.{fault_status, fault_line, fault_of}
+use Rattle.rsfq_main.specs.Faults.{Refusal, fault_status, fault_line, fault_of}
 use Rattle.rsfq_main.specs.Outcomes.{OverText}
 
 -- Statuses.

@@ -88,7 +88,3 @@ spelling_of net flow =
     ++ output_lines net.names.outputs net.outputs
     ++ flat_map flow_line flow.pins
     ++ codes "end\n"
-
--- the flow of no pins, of which a text has no lines
-abbrev pub no_flow : Flow
-no_flow = record { pins = [] }

@@ -9,7 +9,7 @@ use Rattle.gen_blif.specs.declared.ripple_carry.TheConstants.{MAX_BITS}
 use Rattle.rsfq_main.specs.declared.keys.Key.{Key}
 use Rattle.rsfq_main.specs.declared.keys.Key.TheVariants as key
 use Rattle.rsfq_main.specs.declared.words.Command.{Command}
-use Rattle.rsfq_main.specs.declared.words.Command.TheVariants.{Map, Gen, GenAdder}
+use Rattle.rsfq_main.specs.declared.words.Command.TheVariants.{Map, Gen, GenAdder, Bench}
 
 -- how a word begins that gives a key a number
 abbrev pub key_front : Key → List ℕ
@@ -75,12 +75,20 @@ gen_with None (Some seed) (Some tables) words = of_words 2 words (Gen seed table
 gen_with None None tables words = None
 gen_with None (Some seed) None words = None
 
+-- `bench`, with a seed and a number of tables, and with a number of phases or with one
+abbrev pub bench_with : Option ℕ → Option ℕ → Option ℕ → List (List ℕ) → Option Command
+bench_with (Some seed) (Some tables) None words = of_words 2 words (Bench seed tables 1)
+bench_with (Some seed) (Some tables) (Some phases) words = of_words 3 words (Bench seed tables phases)
+bench_with (Some seed) None phases words = None
+bench_with None tables phases words = None
+
 -- the command that the words spell
 unfoldable pub command_of : List (List ℕ) → Option Command
 command_of [] = None
 command_of (command ∷ words) =
     if bytes_eq command (codes "map") then map_with (given key.Phases words) words
     else if bytes_eq command (codes "gen") then gen_with (given key.Adder words) (given key.Seed words) (given key.Tables words) words
+    else if bytes_eq command (codes "bench") then bench_with (given key.Seed words) (given key.Tables words) (given key.Phases words) words
     else None
 
 -- the numbers of a command are in their ranges
@@ -88,3 +96,4 @@ abbrev pub IsInRange : Command → Type 0
 IsInRange (Map phases) = (1 ≤ phases) × (phases ≤ MAX_PHASES)
 IsInRange (Gen seed tables) = (1 ≤ tables) × (tables ≤ MAX_TABLES)
 IsInRange (GenAdder bits) = (1 ≤ bits) × (bits ≤ MAX_BITS)
+IsInRange (Bench seed tables phases) = (1 ≤ tables) × (tables ≤ MAX_TABLES) × (1 ≤ phases) × (phases ≤ MAX_PHASES)

@@ -5,16 +5,14 @@ ghost use Rattle.rsfq_main.specs.Words.{IsInRange};
 ghost use Rattle.rsfq_main.specs.Commands.{limit_of};
 ghost use Rattle.rsfq_main.specs.Outcomes.{IsMade};
 
-use crate::fault::{Fault, Refusal};
+use crate::bench::bench;
+use crate::fault::Fault;
 use crate::map::map;
-use crate::plain::PlainFault;
 use crate::words::Command;
+use blif_read::MAX_TEXT_BYTES;
 use gen_blif::{adder, gen_};
 use net_base::List;
 use std::alloc::Global;
-
-/// The bytes of a text at most.
-pub const MAX_TEXT_BYTES: usize = 8_388_608;
 
 impl Command {
     /// The bytes of the command's text at most; None where it reads no text.
@@ -23,7 +21,7 @@ impl Command {
     {
         match self {
             Command::Map(_) => Some(MAX_TEXT_BYTES),
-            Command::Gen(..) | Command::GenAdder(_) => None,
+            Command::Gen(..) | Command::GenAdder(_) | Command::Bench(..) => None,
         }
     }
 
@@ -33,11 +31,7 @@ impl Command {
         ensures { IsMade self text.now result }
     {
         match self {
-            Command::Map(n) => match map(alloc, text, n) {
-                Ok(netlist) => Ok(List::from_vec(netlist)),
-                Err(PlainFault::NotPlain) => Err(Refusal::NotYet.fault(alloc)),
-                Err(PlainFault::NoMemory) => Err(Fault::NoMemory),
-            },
+            Command::Map(n) => map(alloc, text, n),
             Command::Gen(seed, tables) => match gen_(alloc, seed, tables) {
                 Ok(text) => Ok(List::from_vec(text)),
                 Err(_) => Err(Fault::NoMemory),
@@ -46,6 +40,7 @@ impl Command {
                 Ok(text) => Ok(List::from_vec(text)),
                 Err(_) => Err(Fault::NoMemory),
             },
+            Command::Bench(seed, tables, n) => bench(alloc, seed, tables, n),
         }
     }
 }

@@ -1,40 +1,21 @@
 //! What ends a run before its output is written whole, with the status and the note of each.
 
 ghost use Rattle.std.specs.Prelude.{◌≡◌, ◌⊎◌};
-ghost use Rattle.rsfq_main.specs.declared.fault.Fault.TheVariants.{Refused, NoMemory as OutOfMemory};
-ghost use Rattle.rsfq_main.specs.Faults.{fault_status, fault_line, fault_of};
+ghost use Rattle.rsfq_main.specs.declared.fault.Fault.TheVariants.{NoMemory as OutOfMemory};
+ghost use Rattle.rsfq_main.specs.Faults.{Synthesis, fault_status, fault_line, fault_of};
 
+use crate::notes::note_of;
 use crate::status::Status;
 use net_base::List;
 use std::alloc::Global;
+use synth::SynthFault;
 
-/// Why there is no output for a text.
-#[derive(Clone, Copy, Debug, PartialEq, Eq)]
-pub enum Refusal {
-    /// It has more bytes than the limit.
-    TooLong,
-    /// It isn't of the plain form, the only one that is understood so far.
-    NotYet,
-}
-
-impl Refusal {
-    /// The fault that it ends the run with. A note that has to be made is made here, before anything is written, so want
-    /// of memory for it is `NoMemory` like any other.
-    pub fn fault(self, alloc: Global) -> Fault
-        ensures { (result ≡ fault_of self) ⊎ (result ≡ OutOfMemory) }
-    {
-        match self {
-            Refusal::TooLong => Fault::TooLong,
-            Refusal::NotYet => refused(alloc, b"not yet\n"),
-        }
-    }
-}
-
-// The fault of a refusal with this note.
-fn refused(alloc: Global, note: &[u8]) -> Fault
-    ensures { (result ≡ Refused note.now) ⊎ (result ≡ OutOfMemory) }
+/// The fault of a text that has no netlist. Its note is made here, before anything is written, so want of memory for it is
+/// `NoMemory` like any other.
+pub fn refused(alloc: Global, fault: &SynthFault) -> Fault
+    ensures { (result ≡ fault_of (Synthesis fault.now)) ⊎ (result ≡ OutOfMemory) }
 {
-    match List::from_slice(alloc, note) {
+    match note_of(alloc, fault) {
         Ok(note) => Fault::Refused(note),
         Err(_) => Fault::NoMemory,
     }

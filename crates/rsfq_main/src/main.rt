@@ -1,43 +1,39 @@
-//! The program `rsfq`: a command's words, a text on standard input, a netlist on standard output.
+//! The program `rsfq`: a command's words, a text on standard input, an output on standard output.
 //!
 //! `run` does all that the program does, over any source and any sinks; `main` only hands it the real ones. Its clauses
-//! speak of any command, by what `specs/Commands.antt` says of each. `map` takes texts of the plain form, circuits of AND
-//! and NOT tables, at 1 to 16 phases: each table becomes a clocked cell, each signal waits in DROs until its users' stages,
-//! and splitters hand it to all of them. `gen` reads nothing, and writes the BLIF text of a generated design.
+//! speak of any command, by what `specs/Commands.antt` says of each. `map` takes BLIF texts of tables, with 1 to 16 clock
+//! phases, and writes the netlist that synthesis (`synth`) makes of them, or notes what refuses the text first: a line and what
+//! is wrong with it, a signal, a table on a cycle, or a number. `gen` reads nothing, and writes the BLIF text of a generated
+//! design; `bench` reads nothing either, and sums up the netlist that `map` would write for such a text.
 //!
 //! Promised by `run`: the bytes that it writes are those of the command's output, whole on Done and a proper front of them
 //! on WriteFault (`written`); on Done those of `map` spell a valid netlist with the design's names, on which for every
-//! list of input rows the value read at each output is the value of the text's tables (`meant`); right words, a text of
-//! the form and no counted fault or stall give Done, or NoMemory (`complete`). Each status has its cause (`usage`,
+//! list of input rows the value read at each output is the value of the text's tables (`meant`); right words, an accepted
+//! text and no counted fault or stall give Done, or NoMemory (`complete`). Each status has its cause (`usage`,
 //! `refused`, `no`, `asked`, `write_fault`; of a failed read `source`), and leaves the source (`source`, `unread`), the
 //! sink (`unwritten`, `appended`, `sink_counts`) and the notes (`silent`, `noted`, `notes_counts`) as it says. Private
-//! steps: `command_of` (`command`, `in_range`) and the law `words_spell_numbers`, `plain_design` and the law
-//! `plain_texts_are_spelled`, `gates_of` and `gates_keep_values`, `chained`, `netlist_of` (`value`, `means`),
-//! `spelling_of`, each with its one result.
+//! steps: `command_of` (`command`, `in_range`) and the law `words_spell_numbers`, `note_of`, `spelling_of`, `summary_of`,
+//! each with its one result.
 //! Only tested, by runs of the program: that memory suffices where it is ample, and `main`'s own lines.
 //! Not promised: that no fewer DROs would do, since the gates have their earliest epochs; that two netlists never have the
 //! same text; the depth of the stack, and time.
 //!
-//! Read `specs/Run.antt` and `specs/Commands.antt`, then `specs/Words.antt` (the words), `specs/PlainForm.antt` and
-//! `specs/PlainRules.antt` (the text), `specs/DesignValues.antt` (what it means), `specs/Netlist.antt` and
-//! `specs/Mapping.antt` (the netlist) and `specs/Spelling.antt` (the output). Central proofs: the values of tables are
-//! those of their gates (`proofs/MappingValues.antt`), the clock fits (`proofs/ClockingChains.antt`), and the meaning is put
-//! together from the laws of the layers (`proofs/NetlistMeans.antt`).
+//! Read `specs/Run.antt` and `specs/Commands.antt`, then `specs/Words.antt` (the words), `specs/Notes.antt` (the notes),
+//! `specs/Spelling.antt` and `specs/Summary.antt` (the outputs); what a netlist is and means stands in `synth`. The central
+//! idea: the meaning is `synth`'s, and is handed on; a refusal's note is made with it (`proofs/Refusals.antt`), so that nothing
+//! is left that may fail once the first byte is written.
 #![tactic(auto)]
 
-mod circuit;
-mod clocking;
+mod bench;
 mod commands;
-mod design;
 mod fault;
 mod keys;
 mod map;
-mod mapping;
-mod netlist;
-mod plain;
+mod notes;
 mod run;
 mod spelling;
 mod status;
+mod summary;
 mod words;
 
 use io_edge::{StdSink, StdSource};

@@ -1,32 +1,45 @@
 //! The command `map`: a BLIF text becomes a netlist text.
 
-ghost use Rattle.std.specs.Prelude.{◌≡◌, ◌≤◌, IfOk, IsErrOf, None};
+ghost use Rattle.std.specs.Prelude.{◌≤◌};
 ghost use Rattle.phase_rule.specs.declared.level.TheConstants.{MAX_PHASES};
-ghost use Rattle.rsfq_main.specs.PlainForm.{plain_design};
-ghost use Rattle.rsfq_main.specs.Map.{Maps};
+ghost use Rattle.synth.specs.Meaning.{MeansText};
+ghost use Rattle.rsfq_main.specs.Commands.{netlist_for as what_becomes_of, netlist_text, SpellsMeaning};
+ghost use Rattle.rsfq_main.specs.Outcomes.{Answers};
 
-use crate::netlist::netlist_of;
-use crate::plain::{PlainFault, plain_design as read_design, plain_texts_are_spelled};
+use crate::fault::{Fault, refused};
 use crate::spelling::spelling_of;
-use flow_net::Flow;
+use blif_read::MAX_TEXT_BYTES;
 use net_base::List;
 use std::alloc::Global;
+use synth::{Made, synth};
 
-/// The text of the netlist of a plain text's design, with n phases, 1 to `MAX_PHASES`. `NotPlain` comes exactly where the
-/// text isn't of the plain form, and else `NoMemory` is the only error.
-pub fn map(alloc: Global, text: &[u8], n: u32) -> Result<Vec<u8>, PlainFault>
+/// The netlist of a text with n phases, 1 to `MAX_PHASES`, or the fault of what refuses it first. A text that is too long is
+/// refused here too, since a generated one has passed no reader.
+pub fn netlist_for(alloc: Global, text: &[u8], n: u32) -> Result<Made, Fault>
     requires some { 1 ≤ n }
     requires few { n ≤ MAX_PHASES }
-    ensures mapped { IfOk result (λ bytes. Maps n text.now bytes.items) }
-    ensures refused { IsErrOf result PlainFault.NotPlain → plain_design text.now ≡ None }
+    ensures { Answers (what_becomes_of n text.now) (λ made. MeansText n text.now made.net) result }
 {
-    // What the reader accepts, said apart from it: the texts of the form are the texts of its designs.
-    plain_texts_are_spelled();
-    let design = read_design(alloc, text)?;
-    let net = netlist_of(alloc, design, n)?;
-    let no_flow = Flow {
-        pins: List::new(alloc),
-    };
-    let netlist = spelling_of(alloc, &net, &no_flow)?;
-    Ok(netlist)
+    if text.len() > MAX_TEXT_BYTES {
+        return Err(Fault::TooLong);
+    }
+    match synth(alloc, text, n) {
+        Ok(made) => Ok(made),
+        Err(fault) => Err(refused(alloc, &fault)),
+    }
+}
+
+/// The netlist text of a text with n phases, 1 to `MAX_PHASES`.
+pub fn map(alloc: Global, text: &[u8], n: u32) -> Result<List<u8>, Fault>
+    requires some { 1 ≤ n }
+    requires few { n ≤ MAX_PHASES }
+    ensures { Answers (netlist_text n text.now) (SpellsMeaning n text.now) result }
+{
+    match netlist_for(alloc, text, n) {
+        Ok(made) => match spelling_of(alloc, &made.net, &made.flow) {
+            Ok(bytes) => Ok(List::from_vec(bytes)),
+            Err(_) => Err(Fault::NoMemory),
+        },
+        Err(fault) => Err(fault),
+    }
 }

@@ -17,6 +17,9 @@ pub enum Command {
     Gen(u64, u32),
     /// Writes the BLIF text of an adder of so many bits, 1 to `MAX_BITS`.
     GenAdder(u32),
+    /// Writes the summary of a generated design's netlist: its seed, its tables, 1 to `MAX_TABLES`, and the number of
+    /// phases, 1 to `MAX_PHASES`.
+    Bench(u64, u32, u32),
 }
 
 // `map`, with the words behind it.
@@ -53,8 +56,26 @@ fn gen_of(words: &[String]) -> Option<Command>
     }
 }
 
+// `bench`, with the words behind it.
+fn bench_of(words: &[String]) -> Option<Command>
+    ensures command { result ≡ spec.bench_with (spec.given Key.Seed (map string_bytes words.now))
+        (spec.given Key.Tables (map string_bytes words.now)) (spec.given Key.Phases (map string_bytes words.now)) (map string_bytes words.now) }
+    ensures in_range { IfSome result spec.IsInRange }
+{
+    let seed = Key::Seed.given(words)?;
+    let tables = Key::Tables.given(words)?;
+    match Key::Phases.given(words) {
+        None if words.len() == 2 => Some(Command::Bench(seed, tables as u32, 1)),
+        Some(phases) if words.len() == 3 => {
+            Some(Command::Bench(seed, tables as u32, phases as u32))
+        }
+        _ => None,
+    }
+}
+
 /// The command that the words spell, the program's own name not among them: `map`, alone for one phase or with
-/// `phases=N`; `gen` with `seed=S` and `tables=T` in either order, or with `adder=B` alone. None of all other words.
+/// `phases=N`; `gen` with `seed=S` and `tables=T` in either order, or with `adder=B` alone; `bench` with a seed and tables, alone
+/// for one phase or with phases, in any order. None of all other words.
 #[tactic(auto, unfolding(crate::specs::Words::command_of))]
 pub fn command_of(words: &[String]) -> Option<Command>
     ensures command { result ≡ spec.command_of (map string_bytes words.now) }
@@ -65,6 +86,7 @@ pub fn command_of(words: &[String]) -> Option<Command>
     match words {
         [command, words @ ..] if command.as_str() == "map" => map_of(words),
         [command, words @ ..] if command.as_str() == "gen" => gen_of(words),
+        [command, words @ ..] if command.as_str() == "bench" => bench_of(words),
         _ => None,
     }
 }
