@@ -7,27 +7,23 @@
 //!
 //! Shown: `of_net_base`, lists, names and graphs, and how a name is printed; `of_io_edge`, streams of pieces of any size,
 //! that fail in mid-stream, and of std; `of_blif_model`, names by number, and which designs are regular; `of_blif_lex`, the
-//! logical lines of small texts; `of_blif_read`, texts that read as designs, and a text for each thing that refuses one;
-//! `of_blif_check`, texts at the limits, and the longest chain and cycle; `of_subject_graph`, graphs as large as they may
-//! be, and one that is too large; `of_cut_lists`, the cuts of a small graph, and `of_cut_core`, events over it;
-//! `of_gate_net`, equal gates and gates without a use; `of_flow_net`, the network of a netlist and the DRO count of epochs;
-//! `of_dro_chains`, the limit of DROs; `of_pulse_net`, netlists that break each rule, and what others unfold to;
-//! `of_splitters`, chains that can't be laid out, and a netlist of more than 200,000 elements that is laid out, found valid
-//! and unfolded; `of_gen_blif`, generated texts that are read and ordered.
+//! logical lines of small texts; `of_subject_graph`, graphs as large as they may be, and one that is too large;
+//! `of_cut_lists`, the cuts of a small graph, and `of_cut_core`, events over it; `of_gate_net`, equal gates and gates
+//! without a use; `of_flow_net`, the network of a netlist and the DRO count of epochs; `of_dro_chains`, the limit of DROs;
+//! `of_pulse_net`, netlists that break each rule, and what others unfold to; `of_splitters`, chains that can't be laid out,
+//! and a netlist of more than 200,000 elements that is laid out, found valid and unfolded; `of_gen_blif`, generated texts
+//! that are read and ordered. `gate_rows` and `pulse_rows` make what several of them take.
 //! Promised: nothing. It has no function for others, and no crate stands on it.
-//! Not shown: what a clause says both ways of a call that takes no memory, and what runs of the program show.
+//! Not shown: what a clause says both ways of a call that takes no memory, and what runs of the program show: which texts
+//! are read, and what refuses each other one.
 #![tactic(auto)]
 
 #[cfg(test)]
 mod gate_rows;
 #[cfg(test)]
-mod of_blif_check;
-#[cfg(test)]
 mod of_blif_lex;
 #[cfg(test)]
 mod of_blif_model;
-#[cfg(test)]
-mod of_blif_read;
 #[cfg(test)]
 mod of_cut_core;
 #[cfg(test)]
@@ -52,5 +48,3 @@ mod of_splitters;
 mod of_subject_graph;
 #[cfg(test)]
 mod pulse_rows;
-#[cfg(test)]
-mod texts;

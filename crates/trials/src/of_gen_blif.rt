@@ -1,15 +1,18 @@
 //! Generated texts are read and ordered.
 
-use crate::of_blif_read::{Outcome, outcome_of};
+use blif_check::order;
+use blif_read::{MAX_TEXT_BYTES, read};
 use gen_blif::{MAX_BITS, MAX_TABLES, adder, gen_};
 use std::alloc::Global;
 
-fn is_accepted(alloc: Global, text: &[u8]) -> Option<bool> {
-    let outcome = outcome_of(alloc, text)?;
-    match outcome {
-        Outcome::Ordered(_) => Some(true),
-        _ => Some(false),
+fn is_accepted(alloc: Global, text: &[u8]) -> bool {
+    if text.len() > MAX_TEXT_BYTES {
+        return false;
     }
+    let Ok(design) = read(alloc, text) else {
+        return false;
+    };
+    order(alloc, design).is_ok()
 }
 
 fn is_generated_one(alloc: Global, seed: u64, tables: u32) -> Option<bool> {
@@ -17,7 +20,7 @@ fn is_generated_one(alloc: Global, seed: u64, tables: u32) -> Option<bool> {
         return None;
     }
     let text = gen_(alloc, seed, tables).ok()?;
-    is_accepted(alloc, text.as_slice())
+    Some(is_accepted(alloc, text.as_slice()))
 }
 
 fn is_adder(alloc: Global, bits: u32) -> Option<bool> {
@@ -25,7 +28,7 @@ fn is_adder(alloc: Global, bits: u32) -> Option<bool> {
         return None;
     }
     let text = adder(alloc, bits).ok()?;
-    is_accepted(alloc, text.as_slice())
+    Some(is_accepted(alloc, text.as_slice()))
 }
 
 #[test]

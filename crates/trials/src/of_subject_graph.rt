@@ -1,6 +1,5 @@
 //! The graphs of long chains of tables, by their numbers of nodes.
 
-use crate::of_blif_check::push_name;
 use blif_check::order;
 use blif_read::{MAX_TEXT_BYTES, read};
 use net_base::NoMemory;
@@ -30,6 +29,15 @@ static OF_THREE: Chain = Chain {
     others: " x y",
     rows: "\n100 1\n010 1\n001 1\n111 1\n",
 };
+
+// A blank and the name of a number of 16 bits.
+fn push_name(text: &mut Vec<u8>, number: u32) -> Result<(), NoMemory> {
+    text.extend_from_slice(b" n")?;
+    for place in [12u32, 8, 4, 0] {
+        text.push(b'a' + (number >> place & 15) as u8)?;
+    }
+    Ok(())
+}
 
 fn push_table(text: &mut Vec<u8>, chain: &Chain, table: u32) -> Result<(), NoMemory> {
     text.extend_from_slice(b".names")?;
