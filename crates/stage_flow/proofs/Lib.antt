@@ -1,0 +1,39 @@
+mod Linked
+mod Counting
+mod Wants
+mod CutOff
+mod Sent
+mod AllRounds
+mod StillToSend
+mod ReachedByWalks
+mod ReceiverFound
+pub mod Walks
+pub mod Best
+pub mod Labels
+pub mod Receiver
+pub mod LeastWay
+pub mod Path
+pub mod Units
+pub mod Along
+pub mod Ends
+pub mod OutMinusIn
+pub mod Round
+pub mod Depths
+pub mod Slacks
+pub mod LabelBounds
+pub mod NetworkEnds
+pub mod Wanting
+pub mod CallerLemmas
+mod ExamplesOfWalks
+mod Examples
+mod ExamplesOfSending
+mod EpochExamples
+mod ResidualArcs
+mod LaidNets
+mod Optimum
+mod Supply
+mod BestWithin
+mod SourceLabels
+mod LeastLengths
+mod Unique
+mod LabelledRounds

@@ -1,0 +1,42 @@
+//! Fewest DROs by successive longest paths: the rounds, and the laws that will carry the solver.
+//!
+//! In each round a vertex that has still to send a unit sends one, along a longest path of the residual network, to a mirror that
+//! wants one. As many rounds as there are drivers, each of which sends a unit while a mirror wants one, make a full flow, and the
+//! lengths of longest walks from the source are then the least of all epochs that need the fewest DROs. No call here finds them yet: what stands here is what they are, and what
+//! is proved of them for every network.
+//!
+//! Defined: the residual network of a flow (`specs/Residual.antt`), longest walks with the fewest arcs (`specs/Longest.antt`),
+//! the rounds, with the ties of receiver and path (`specs/Rounds.antt`, from `flow_after`), and the least optimal epochs
+//! (`specs/LeastEpochs.antt`). `proofs/Examples.antt` evaluates the rounds on a small network.
+//! Laws: the best of walks is attained and no walk is better; of labels that fit, the receiver and the path of a round are read
+//! off tight arcs (`specs/LawsOfWalks.antt`). What every flow of the rounds keeps, that nobody is cut off from the mirrors that
+//! want, and that the rounds make a full flow (`specs/LawsOfSending.antt`). Potentials that fit a full flow give epochs with the
+//! fewest DROs, as many as the flow is worth; the lengths of longest walks from the source are the least of these; and there are
+//! no two least ones (`specs/LawsOfEpochs.antt`). Put together, labels for the sender of each round lead to a full flow and to
+//! epochs with the fewest DROs (`specs/LawsOfRounds.antt`).
+//! Not promised: that a search finds labels, since none is here.
+//!
+//! Source: successive shortest paths (Jewell 1958; Busacker and Gowen 1960), with lengths maximised, and complementary slackness
+//! of linear programs. The labels towards the mirrors that want, which serve all senders, and the ties are our own.
+#![tactic(auto)]
+
+mod laws_of_epochs;
+mod laws_of_rounds;
+mod laws_of_sending;
+mod laws_of_walks;
+
+pub use laws_of_epochs::{
+    every_vertex_is_reached, fitting_potentials_are_optimal, labels_are_farthest, labels_are_few,
+    least_epochs_are_unique, longest_lengths_are_few, longest_lengths_are_least_epochs,
+    nothing_is_least_without_pins, potentials_rise_from_source, source_is_lowest,
+};
+pub use laws_of_rounds::{labelled_rounds_have_fewest_dros, labelled_rounds_make_a_full_flow};
+pub use laws_of_sending::{
+    a_receiver_is_found, as_many_want_as_are_to_send, nobody_is_cut_off, rounds_make_a_full_flow,
+    units_make_part_flows,
+};
+pub use laws_of_walks::{
+    labels_are_best, labels_are_determined, no_walk_is_better, rounds_go_by_labels,
+    searches_give_labels, the_best_is_attained, the_best_to_a_layer, the_last_way_is_least,
+    the_receiver_is_least,
+};
