@@ -6,6 +6,7 @@ mod Lengths
 mod DriverNumbers
 mod Sums
 mod Potentials
+mod LaidNets
 mod FullFlows
 mod Duality
 pub mod CallerLemmas

@@ -43,6 +43,11 @@ chain_lengths epochs pins (suc driver) = chain_lengths epochs pins driver ++ cha
 abbrev pub dro_count : Net → Epochs → ℕ
 dro_count net epochs = sum (chain_lengths epochs net.pins net.drivers)
 
+-- no balanced epochs have a lower DRO count
+pub record HasFewestDros (net : Net) (epochs : Epochs) : Type 0 where
+  pub balanced : IsBalanced net epochs
+  pub fewest : (other : Epochs) → IsBalanced net other → dro_count net epochs ≤ dro_count net other
+
 -- The earliest epochs with n phases: each gate's level over n, and the sink 1 behind the last driver of an output.
 abbrev pub earliest_gates : ℕ → GateNet → List ℕ
 earliest_gates n net = map (λ level. level / n) (levels_of net)
