@@ -24,7 +24,7 @@ pub record IsWayOn (flow : Flow) (arcs : List Arc) (way : Way) : Type 0 where
   pub there : Contains arcs arc
   pub is : (way ≡ adding arc) ⊎ ((way ≡ taking arc) × (0 < units_on flow arc))
 
-way-on_arc : (flow : Flow) (arcs : List Arc) (way : Way) → Contains (flat_map (ways_on flow) arcs) way → IsWayOn flow arcs way
+pub way-on_arc : (flow : Flow) (arcs : List Arc) (way : Way) → Contains (flat_map (ways_on flow) arcs) way → IsWayOn flow arcs way
 way-on_arc flow [] way (k, within, is) = absurd (omega arith)
 way-on_arc flow (arc ∷ arcs) way there =
     ⊎_elim {C = IsWayOn flow (arc ∷ arcs) way}
@@ -46,21 +46,21 @@ pub way-on : (net : Net) (flow : Flow) (way : Way) → Contains (ways_of net flo
 way-on net flow way there = way-on_arc flow (arcs_of net) way there
 
 -- Each arc's residual arcs are among them.
-adding-there : (flow : Flow) (arc : Arc) → Contains (ways_on flow arc) (adding arc)
+pub adding-there : (flow : Flow) (arc : Arc) → Contains (ways_on flow arc) (adding arc)
 adding-there flow arc = (0, by (units_on flow arc == 0), refl)
   where
     by : (none : Bool) → 0 < length (adding arc ∷ cond none [] (taking arc ∷ []))
     by true = omega arith
     by false = omega arith
 
-taking-there : (flow : Flow) (arc : Arc) → 0 < units_on flow arc → Contains (ways_on flow arc) (taking arc)
+pub taking-there : (flow : Flow) (arc : Arc) → 0 < units_on flow arc → Contains (ways_on flow arc) (taking arc)
 taking-there flow arc some = by (units_on flow arc == 0) refl
   where
     by : (none : Bool) → (units_on flow arc == 0) ≡ none → Contains (adding arc ∷ cond none [] (taking arc ∷ [])) (taking arc)
     by true empty = let h = eqb-true (units_on flow arc) 0 empty in absurd (omega (arith, h))
     by false empty = (1, omega arith, refl)
 
-ways-there : (flow : Flow) (arcs : List Arc) (arc : Arc) (way : Way) → Contains arcs arc → Contains (ways_on flow arc) way → Contains (flat_map (ways_on flow) arcs) way
+pub ways-there : (flow : Flow) (arcs : List Arc) (arc : Arc) (way : Way) → Contains arcs arc → Contains (ways_on flow arc) way → Contains (flat_map (ways_on flow) arcs) way
 ways-there flow [] arc way (k, within, is) on = absurd (omega arith)
 ways-there flow (first ∷ arcs) arc way (zero, within, is) on =
     Contains-append_left (ways_on flow first) (flat_map (ways_on flow) arcs) way (subst (λ (a : Arc). Contains (ways_on flow a) way) (sym is) on)

@@ -17,14 +17,13 @@ use Rattle.flow_net.specs.Network.{pin_of, network_of}
 use Rattle.flow_net.specs.Arcs.{Arc, arcs_of}
 use Rattle.flow_net.specs.Flows.{units_on, IsFullFlow, flow_value}
 use Rattle.flow_net.specs.Epochs.{epoch_at, chain_lengths, dro_count, IsPinBalanced, IsBalanced}
-use Rattle.flow_net.proofs.CallerLemmas.{IsLaid, Rises, potential, potential-vertex, potentials-rise, rise-is_count}
+use Rattle.flow_net.proofs.CallerLemmas.{IsLaid, Rises, potential, potential-vertex, potentials-rise, rise-is_count, network-laid, weights-few}
 use Rattle.stage_flow.specs.Residual.{ways_of, vertex_count}
 use Rattle.stage_flow.specs.Longest.{Reach, best_within}
 use Rattle.stage_flow.specs.LeastEpochs.{AreNoLater, AreLeastEpochs}
 use Rattle.stage_flow.specs.LawsOfEpochs.{FitsFlow, AreFarthest, AreLabelsFromSource, not_below, epochs_by, FittingPotentialsAreOptimal, LongestLengthsAreLeastEpochs, LongestLengthsAreFew, LabelsAreFew, NothingIsLeastWithoutPins}
 use Rattle.stage_flow.proofs.ResidualArcs.{IsMet, met-ways, ways-met, All-arcs_by, All-ways, RisesAtMost, value-tight}
 use Rattle.stage_flow.proofs.Optimum.{rises-fewest, value-is_count}
-use Rattle.stage_flow.proofs.LaidNets.{network-laid, weights-few}
 use Rattle.stage_flow.proofs.Supply.{epoch_at-epochs_by, supplied-rise}
 use Rattle.stage_flow.proofs.BestWithin.{best-below, best-few}
 use Rattle.stage_flow.proofs.SourceLabels.{labels-attained, labels-farthest}
@@ -151,7 +150,7 @@ labels-few net phases flow far hops labels vertex within =
     omega (arith, ints, found.2)
 
 -- ---- Without pins
-sum-no_chains : (epochs : Epochs) (drivers : ℕ) → sum (chain_lengths epochs [] drivers) ≡ 0
+pub sum-no_chains : (epochs : Epochs) (drivers : ℕ) → sum (chain_lengths epochs [] drivers) ≡ 0
 sum-no_chains epochs zero = refl
 sum-no_chains epochs (suc drivers) = omega (arith, sum-no_chains epochs drivers, sum_by_push (λ x. x) (chain_lengths epochs [] drivers) 0)
 

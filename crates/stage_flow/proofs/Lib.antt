@@ -29,7 +29,6 @@ mod Examples
 mod ExamplesOfSending
 mod EpochExamples
 mod ResidualArcs
-mod LaidNets
 mod Optimum
 mod Supply
 mod BestWithin
@@ -37,3 +36,16 @@ mod SourceLabels
 mod LeastLengths
 mod Unique
 mod LabelledRounds
+mod SendingArcs
+mod SendingSearch
+mod SendingPath
+mod SendingUnits
+mod SendingExamples
+mod IncidenceRows
+mod ProgressNetworks
+mod ProgressSender
+mod ProgressUnits
+mod ProgressPotentials
+mod SolvingEpochs
+mod ProgressExamples
+mod SearchTests

@@ -1,9 +1,8 @@
 -- The network of a netlist is linked: each driver has a pin, and each pin leads upwards from its driver's vertex to a gate or the
 -- sink. Where there is a driver there is a used input, since nothing but an input can drive the first gate.
-use Rattle.std.proofs.Common.{◌≡◌, ◌<◌, ◌≤◌, ◌+◌, ◌-◌, ◌∙◌, ℕ, suc, true, false, cond, nat_lt, List, [], ◌∷◌, ◌++◌, length, get_or, map, All, Any, refl, sym, ap, arith, ⊎_elim}
+use Rattle.std.proofs.Common.{◌≡◌, ◌<◌, ◌≤◌, ◌+◌, ℕ, suc, List, [], ◌∷◌, ◌++◌, length, get_or, map, All, Any, refl, arith, ⊎_elim}
 use Rattle.std.specs.List.{flat_map}
 use Rattle.std.proofs.lemmas.Bool.{cases_lt}
-use Rattle.std.proofs.lemmas.Bool.Decides.{nat_tests}
 use Rattle.std.proofs.lemmas.List.Elements.{All-nil, All-append, All-map}
 use Rattle.cell_lib.proofs.CallerLemmas.{arity_of-some}
 use Rattle.gate_net.specs.declared.row.Driver.{Driver}
@@ -15,10 +14,10 @@ use Rattle.gate_net.proofs.CallerLemmas.{All-end_drivers}
 use Rattle.flow_net.specs.declared.uses.Use.{Use}
 use Rattle.flow_net.specs.declared.net.Pin.{Pin}
 use Rattle.flow_net.specs.declared.net.Net.{Net}
-use Rattle.flow_net.specs.Uses.{use_by, gate_uses, uses_of, sink_of, used_inputs, driver_number}
+use Rattle.flow_net.specs.Uses.{use_by, gate_uses, uses_of, sink_of, used_inputs}
 use Rattle.flow_net.specs.Network.{vertex_of, pin_of, network_of}
 use Rattle.flow_net.specs.DriverNumbers.{IsNumbered}
-use Rattle.flow_net.proofs.CallerLemmas.{uses-numbered, drivers_are_numbered, gates-le-uses, home, IsLaid}
+use Rattle.flow_net.proofs.CallerLemmas.{uses-numbered, drivers_are_numbered, gates-le-uses, IsLaid, input-below, use-laid}
 
 -- a pin of a driver with a number, from the driver's vertex upwards to a gate or the sink
 pub record IsUpward (net : Net) (pin : Pin) : Type 0 where
@@ -55,51 +54,11 @@ users-behind net formed =
     let low = vertex_of-le net.inputs (length net.gates) (get_or drivers i e) (All-end_drivers net.inputs (length net.gates) net.outputs formed.outputs i e inside) in
     (omega arith, omega arith)))
 
--- A used input's number isn't a gate's, so it is below the used inputs.
-input-below : (net : GateNet) (i : ℕ) → IsGateNet net → IsNumbered net (Input i) → driver_number net (Input i) < used_inputs net
-input-below net i formed numbered =
-    let laws = drivers_are_numbered net [] formed in
-    let number = driver_number net (Input i) in
-    let low = laws.below (Input i) numbered in
-    ⊎_elim {C = number < used_inputs net} (λ less. less)
-    (λ past.
-    let k = number - used_inputs net in
-    let gate : k < length net.gates = omega (arith, low) in
-    let same : number ≡ used_inputs net + k = omega arith in
-    let clash : Input i ≡ Gate k = laws.distinct (Input i) (Gate k) numbered gate same in
-    absurd (cc))
-    (cases_lt number (used_inputs net))
-
--- A driver's vertex is the one that its number tells.
-home-is_vertex : (net : GateNet) (phases : List ℕ) (driver : Driver) → IsGateNet net → IsNumbered net driver → vertex_of driver ≡ home (network_of net phases) (driver_number net driver)
-home-is_vertex net phases (Input i) formed numbered =
-    let inputs = used_inputs net + length net.gates - length net.gates in
-    let number = driver_number net (Input i) in
-    let low = input-below net i formed numbered in
-    let test : nat_lt number inputs ≡ true = grind (arith, nat_tests) in
-    sym (ap (λ b. cond b 0 (suc (number - inputs))) test)
-home-is_vertex net phases (Gate k) formed numbered =
-    let inputs = used_inputs net + length net.gates - length net.gates in
-    let number = used_inputs net + k in
-    let test : nat_lt number inputs ≡ false = grind (arith, nat_tests) in
-    let same : suc (number - inputs) ≡ suc k = omega arith in
-    sym (ap (λ b. cond b 0 (suc (number - inputs))) test ∙ same)
-
 pub pins-upward : (net : GateNet) (phases : List ℕ) → IsGateNet net → All (IsUpward (network_of net phases)) (network_of net phases).pins
 pins-upward net phases formed =
     All-map (IsUpward (network_of net phases)) (pin_of net phases) (uses_of net)
     (λ k d within.
-    let one = get_or (uses_of net) k d in
-    let numbered = uses-numbered net formed k d within in
-    let behind = users-behind net formed k d within in
-    record {
-      laid = record {
-        numbered = (drivers_are_numbered net phases formed).below one.driver numbered;
-        starts = home-is_vertex net phases one.driver formed numbered;
-        ends = omega (arith, behind.1);
-      };
-      upward = behind.0;
-    })
+    record { laid = use-laid net phases formed k d within; upward = (users-behind net formed k d within).0 })
 
 -- The first use is by the first gate, which only an input can drive; so where there is a gate an input is used.
 first_user : (rows : List GateRow) (rest : List Use) (d : Use) → 0 < length rows → ((row : GateRow) → 1 ≤ length (get_or rows 0 row).pins) → (get_or (gate_uses 1 rows ++ rest) 0 d).user ≡ 1

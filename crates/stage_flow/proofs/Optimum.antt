@@ -12,10 +12,9 @@ use Rattle.flow_net.specs.declared.net.Flow.{Flow}
 use Rattle.flow_net.specs.declared.net.Epochs.{Epochs}
 use Rattle.flow_net.specs.Arcs.{mirror_of, forward_arc, back_arc, arcs_of}
 use Rattle.flow_net.specs.Flows.{IsFullFlow, flow_value}
-use Rattle.flow_net.specs.Epochs.{epoch_at, need_of, chain_length, dro_count, IsPinBalanced, IsBalanced}
+use Rattle.flow_net.specs.Epochs.{epoch_at, need_of, chain_length, dro_count, IsPinBalanced, IsBalanced, HasFewestDros}
 use Rattle.flow_net.proofs.CallerLemmas.{home, IsLaid, potential, potential-vertex, potential-mirror, rise-is_count, value-le_count}
 use Rattle.stage_flow.specs.LawsOfEpochs.{AreRises}
-use Rattle.stage_flow.specs.LeastEpochs.{HasFewestDros}
 use Rattle.stage_flow.proofs.ResidualArcs.{IsMet, All-pins, All-arcs_by, RisesAtMost, rise-le_value}
 
 -- A driver's vertex is the source or a gate.

@@ -18,14 +18,14 @@ use Rattle.stage_flow.proofs.LeastWay.{IsNoLesser, test-no_lesser, HasLeast, lea
 use Rattle.stage_flow.proofs.Receiver.{layer_reach, best_to-fits, best_to-in_layer, in_layer-from_best, receiver-is}
 
 -- ---- What may be last
-is_reach-is : (found : Option Reach) (reach : Reach) → is_reach found reach ≡ true → found ≡ Some reach
+pub is_reach-is : (found : Option Reach) (reach : Reach) → is_reach found reach ≡ true → found ≡ Some reach
 is_reach-is None reach test = absurd (cc)
 is_reach-is (Some found) reach test =
     let parts = and_parts (not (is_better found reach)) (not (is_better reach found)) test in
     ap Some
     (reach-tied found reach (no_better-test found reach (not-true (is_better found reach) parts.0)) (no_better-test reach found (not-true (is_better reach found) parts.1)))
 
-is_reach-same : (reach : Reach) → is_reach (Some reach) reach ≡ true
+pub is_reach-same : (reach : Reach) → is_reach (Some reach) reach ≡ true
 is_reach-same reach =
     let less = test-no_better reach reach (no_better-same reach) in
     and_from (not (is_better reach reach)) (not (is_better reach reach)) (not_from_false (is_better reach reach) less) (not_from_false (is_better reach reach) less)
@@ -70,7 +70,7 @@ layer-ends_by far hops ways from steps to layer = by layer.walk layer.tight laye
     by (way ∷ walk) tight long =
         subst (λ n. EndsBy far hops ways from n to) (let h : length walk ≡ steps = omega arith in h) (ends_by far hops ways from to way walk tight)
 
-layer-none : (far : ℕ → ℤ) (hops : ℕ → ℕ) (ways : List Way) (from to : ℕ) → IsInLayer far hops ways from 0 to → from ≡ to
+pub layer-none : (far : ℕ → ℤ) (hops : ℕ → ℕ) (ways : List Way) (from to : ℕ) → IsInLayer far hops ways from 0 to → from ≡ to
 layer-none far hops ways from to layer = by layer.walk layer.tight layer.long
   where
     by : (walk : List Way) → IsTightWalk far hops ways from to walk → length walk ≡ 0 → from ≡ to
@@ -95,7 +95,7 @@ module _ (net : Net) (flow : Flow) (far : ℕ → ℤ) (hops : ℕ → ℕ) (fro
   }
 
   -- What may be last is tight, from the layer before.
-  last-is : (steps vertex : ℕ) (way : Way) → IsInLayer far hops (ways_of net flow) from (suc steps) vertex → Contains (ways_of net flow) way → is_last (best_to net flow from) (layer_reach far from (suc steps) vertex) vertex way ≡ true → (way.head ≡ vertex) × IsTight far hops way × IsInLayer far hops (ways_of net flow) from steps way.tail
+  pub last-is : (steps vertex : ℕ) (way : Way) → IsInLayer far hops (ways_of net flow) from (suc steps) vertex → Contains (ways_of net flow) way → is_last (best_to net flow from) (layer_reach far from (suc steps) vertex) vertex way ≡ true → (way.head ≡ vertex) × IsTight far hops way × IsInLayer far hops (ways_of net flow) from steps way.tail
   last-is steps vertex way layer there last =
       let reach = layer_reach far from (suc steps) vertex in
       let parts = and_parts (way.head == vertex) (is_reach (by_way way (best_to net flow from way.tail)) reach) last in
@@ -116,7 +116,7 @@ module _ (net : Net) (flow : Flow) (far : ℕ → ℤ) (hops : ℕ → ℕ) (fro
       (ends, own, subst (λ n. IsInLayer far hops (ways_of net flow) from n way.tail) (let h : before.hops ≡ steps = omega (arith, many) in h) rest)
 
   -- What is tight, from the layer before, may be last.
-  last-from : (steps vertex : ℕ) (way : Way) → Contains (ways_of net flow) way → way.head ≡ vertex → IsTight far hops way → IsInLayer far hops (ways_of net flow) from steps way.tail → is_last (best_to net flow from) (layer_reach far from (suc steps) vertex) vertex way ≡ true
+  pub last-from : (steps vertex : ℕ) (way : Way) → Contains (ways_of net flow) way → way.head ≡ vertex → IsTight far hops way → IsInLayer far hops (ways_of net flow) from steps way.tail → is_last (best_to net flow from) (layer_reach far from (suc steps) vertex) vertex way ≡ true
   last-from steps vertex way there ends own before =
       let reach = layer_reach far from (suc steps) vertex in
       let within = All-contains (IsLow (vertex_count net)) (ways_of net flow) way low there in

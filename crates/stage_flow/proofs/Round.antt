@@ -59,7 +59,7 @@ has_units-sent : (net : Net) (path : List Way) (flow : Flow) → HasUnits net fl
 has_units-sent net [] flow units = units
 has_units-sent net (way ∷ path) flow units = has_units-sent net path (along way flow) (has_units-along net flow way units)
 
-after_round-is : (net : Net) (flow : Flow) (from : ℕ) → sender net flow ≡ Some from → after_round net flow ≡ sent_along (path_of net flow (Some from)) flow
+pub after_round-is : (net : Net) (flow : Flow) (from : ℕ) → sender net flow ≡ Some from → after_round net flow ≡ sent_along (path_of net flow (Some from)) flow
 unfolding after_round
 after_round-is net flow from is = ap (λ o. sent_along (path_of net flow o) flow) is
 

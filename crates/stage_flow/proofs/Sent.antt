@@ -20,7 +20,7 @@ use Rattle.stage_flow.proofs.Wants.{wants-to_send, wants-high, wants-mirror, wan
 abbrev none : Units
 none = record { forward = 0; back = 0 }
 
-nothing_on : (n k : ℕ) → get_or (flat_map pin_units (replicate n none)) k 0 ≡ 0
+pub nothing_on : (n k : ℕ) → get_or (flat_map pin_units (replicate n none)) k 0 ≡ 0
 nothing_on zero k = refl
 nothing_on (suc n) zero = refl
 nothing_on (suc n) (suc zero) = refl

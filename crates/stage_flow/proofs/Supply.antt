@@ -24,10 +24,9 @@ use Rattle.flow_net.specs.Uses.{use_by, gate_uses, uses_of, sink_of}
 use Rattle.flow_net.specs.Network.{vertex_of, pin_of, network_of}
 use Rattle.flow_net.specs.Arcs.{Arc, mirror_of, forward_arc, back_arc, arcs_of}
 use Rattle.flow_net.specs.Epochs.{epoch_at}
-use Rattle.flow_net.proofs.CallerLemmas.{drivers_are_numbered, IsLaid}
+use Rattle.flow_net.proofs.CallerLemmas.{drivers_are_numbered, IsLaid, network-laid}
 use Rattle.stage_flow.specs.LawsOfEpochs.{AreRises, not_below, rise_to, epochs_by, PotentialsRise, SourceIsLowest, EveryVertexIsReached}
 use Rattle.stage_flow.proofs.ResidualArcs.{IsMet, met-ways, adding-ways, All-pins}
-use Rattle.stage_flow.proofs.LaidNets.{network-laid}
 use Rattle.stage_flow.proofs.Optimum.{from-below}
 
 -- ---- Lists

@@ -12,6 +12,7 @@ use Rattle.flow_net.specs.Arcs.{Arc, arcs_from, arcs_of}
 use Rattle.flow_net.specs.Flows.{pin_units, units_on}
 use Rattle.stage_flow.specs.Residual.{Way}
 use Rattle.stage_flow.specs.Rounds.{moved, with_unit, along}
+use Rattle.stage_flow.specs.Sending.{side}
 
 -- ---- Arcs by their numbers
 pub length-arcs_from : (net : Net) (place : ℕ) (pins : List Pin) → length (arcs_from net place pins) ≡ 2 * length pins
@@ -53,11 +54,7 @@ arc-low net arc (k, within, is) =
     omega (arith, first, own, length-arcs_from net 0 net.pins)
 
 -- ---- Units by their numbers
--- the units of a pin's forward arc where the number is even, and else of its back arc
-abbrev side : ℕ → Units → ℕ
-side number units = cond (number % 2 == 0) units.forward units.back
-
-units-at : (pins : List Units) (number : ℕ) (d : Units) → number / 2 < length pins → get_or (flat_map pin_units pins) number 0 ≡ side number (get_or pins (number / 2) d)
+pub units-at : (pins : List Units) (number : ℕ) (d : Units) → number / 2 < length pins → get_or (flat_map pin_units pins) number 0 ≡ side number (get_or pins (number / 2) d)
 units-at [] number d within = absurd (omega arith)
 units-at (units ∷ pins) zero d within = refl
 units-at (units ∷ pins) (suc zero) d within = refl

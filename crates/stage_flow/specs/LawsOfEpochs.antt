@@ -9,12 +9,12 @@ use Rattle.flow_net.specs.declared.net.Flow.{Flow}
 use Rattle.flow_net.specs.declared.net.Epochs.{Epochs}
 use Rattle.flow_net.specs.Uses.{uses_of}
 use Rattle.flow_net.specs.Network.{network_of}
-use Rattle.flow_net.specs.Epochs.{epoch_at, dro_count}
+use Rattle.flow_net.specs.Epochs.{epoch_at, dro_count, HasFewestDros}
 use Rattle.flow_net.specs.Flows.{IsFullFlow, flow_value}
 use Rattle.stage_flow.specs.Residual.{Way, ways_of, vertex_count}
 use Rattle.stage_flow.specs.Longest.{Reach}
 use Rattle.stage_flow.specs.Rounds.{best_to}
-use Rattle.stage_flow.specs.LeastEpochs.{HasFewestDros, AreLeastEpochs}
+use Rattle.stage_flow.specs.LeastEpochs.{AreLeastEpochs}
 
 -- a residual arc is no longer than the potential rises on it
 abbrev pub Fits : (ℕ → ℤ) → Way → Type 0

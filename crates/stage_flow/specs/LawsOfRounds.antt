@@ -4,11 +4,10 @@ use Rattle.gate_net.specs.declared.net.GateNet.{GateNet}
 use Rattle.gate_net.specs.Net.{IsGateNet, EachGateIsUsed}
 use Rattle.flow_net.specs.declared.net.Net.{Net}
 use Rattle.flow_net.specs.Network.{network_of}
-use Rattle.flow_net.specs.Epochs.{dro_count}
+use Rattle.flow_net.specs.Epochs.{dro_count, HasFewestDros}
 use Rattle.flow_net.specs.Flows.{IsFullFlow, flow_value}
 use Rattle.stage_flow.specs.Residual.{ways_of}
 use Rattle.stage_flow.specs.Rounds.{sender, flow_after, rounds_of}
-use Rattle.stage_flow.specs.LeastEpochs.{HasFewestDros}
 use Rattle.stage_flow.specs.LawsOfWalks.{AreLabelsFor, FitsWay, potential_by}
 use Rattle.stage_flow.specs.LawsOfSending.{IsPartFlow}
 use Rattle.stage_flow.specs.LawsOfEpochs.{epochs_by}

@@ -2,12 +2,7 @@
 use Rattle.std.specs.Prelude.{◌≡◌, ◌≤◌, ℕ, [], slice_index_or}
 use Rattle.flow_net.specs.declared.net.Net.{Net}
 use Rattle.flow_net.specs.declared.net.Epochs.{Epochs}
-use Rattle.flow_net.specs.Epochs.{IsBalanced, dro_count}
-
--- no balanced epochs have a lower DRO count
-pub record HasFewestDros (net : Net) (epochs : Epochs) : Type 0 where
-  pub balanced : IsBalanced net epochs
-  pub fewest : (other : Epochs) → IsBalanced net other → dro_count net epochs ≤ dro_count net other
+use Rattle.flow_net.specs.Epochs.{HasFewestDros}
 
 -- each gate's epoch, and the sink's, is no later than in the others
 pub record AreNoLater (epochs others : Epochs) : Type 0 where

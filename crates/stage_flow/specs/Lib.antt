@@ -6,3 +6,7 @@ pub mod LawsOfEpochs
 pub mod LawsOfSending
 pub mod LawsOfWalks
 pub mod LawsOfRounds
+pub mod Given
+pub mod UnderWay
+pub mod Search
+pub mod Sending

@@ -1,9 +1,13 @@
-//! Fewest DROs by successive longest paths: the rounds, and the laws that will carry the solver.
+//! Fewest DROs by successive longest paths: the rounds, and the laws that carry the solver.
 //!
 //! In each round a vertex that has still to send a unit sends one, along a longest path of the residual network, to a mirror that
-//! wants one. As many rounds as there are drivers, each of which sends a unit while a mirror wants one, make a full flow, and the
-//! lengths of longest walks from the source are then the least of all epochs that need the fewest DROs. No call here finds them yet: what stands here is what they are, and what
-//! is proved of them for every network.
+//! wants one. As many rounds as there are drivers make a full flow, and the lengths of longest walks from the source are then
+//! the least of all epochs that need the fewest DROs.
+//!
+//! Promised: `solve` answers the flow of the rounds (`flow`), which is full (`full`), the least optimal epochs (`epochs`), each
+//! below the number of vertices (`low`), and their DRO count (`count`), which is the flow's value (`value`). `Progress` makes one
+//! round after the other: `start` is none, and each `round` is one more (`flow`), with potentials that fit (`potentials`). The
+//! only refusal is `NoMemory`, and after it a `Progress` is as it was.
 //!
 //! Defined: the residual network of a flow (`specs/Residual.antt`), longest walks with the fewest arcs (`specs/Longest.antt`),
 //! the rounds, with the ties of receiver and path (`specs/Rounds.antt`, from `flow_after`), and the least optimal epochs
@@ -12,18 +16,32 @@
 //! off tight arcs (`specs/LawsOfWalks.antt`). What every flow of the rounds keeps, that nobody is cut off from the mirrors that
 //! want, and that the rounds make a full flow (`specs/LawsOfSending.antt`). Potentials that fit a full flow give epochs with the
 //! fewest DROs, as many as the flow is worth; the lengths of longest walks from the source are the least of these; and there are
-//! no two least ones (`specs/LawsOfEpochs.antt`). Put together, labels for the sender of each round lead to a full flow and to
-//! epochs with the fewest DROs (`specs/LawsOfRounds.antt`).
-//! Not promised: that a search finds labels, since none is here.
+//! no two least ones (`specs/LawsOfEpochs.antt`).
+//! Not proved: that what the searches find, and the rows of arcs, always pass the tests that each answer has passed. Where one
+//! failed, `NoMemory` would be told although memory was there. Not promised: time.
 //!
 //! Source: successive shortest paths (Jewell 1958; Busacker and Gowen 1960), with lengths maximised, and complementary slackness
 //! of linear programs. The labels towards the mirrors that want, which serve all senders, and the ties are our own.
 #![tactic(auto)]
 
+mod epochs;
+mod fitting;
+mod frontier;
+mod incidence;
+mod last_arcs;
 mod laws_of_epochs;
 mod laws_of_rounds;
 mod laws_of_sending;
 mod laws_of_walks;
+mod potentials;
+mod progress;
+mod search;
+mod senders;
+mod sending;
+mod settling;
+mod solving;
+mod tight;
+mod ways;
 
 pub use laws_of_epochs::{
     every_vertex_is_reached, fitting_potentials_are_optimal, labels_are_farthest, labels_are_few,
@@ -40,3 +58,5 @@ pub use laws_of_walks::{
     searches_give_labels, the_best_is_attained, the_best_to_a_layer, the_last_way_is_least,
     the_receiver_is_least,
 };
+pub use progress::Progress;
+pub use solving::{Solved, solve};

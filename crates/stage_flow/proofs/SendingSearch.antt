@@ -1,0 +1,311 @@
+-- The search along tight arcs. Vertices are added behind those that are there, and are gone through in order. Each was found by a
+-- walk of tight arcs, and of each that was gone through the heads of its tight arcs are there too. At the end all were gone
+-- through, so what was reached is what walks of tight arcs reach.
+use Rattle.std.proofs.Common.{◌≡◌, ◌<◌, ◌≤◌, ◌+◌, ◌/◌, ◌==◌, ◌∙◌, ◌++◌, ◌⊎◌, ◌||◌, inl, ℕ, zero, suc, ℤ, nat_eq, Bool, true, false, cond, List, [], ◌∷◌, length, get_or, map, filter, take, drop, All, Contains, Some, refl, ap, sym, subst, arith, true≢false, ⊎_elim, append_assoc, length-append}
+use Rattle.std.specs.List.{flat_map, IsDistinct}
+use Rattle.std.proofs.Math.Bool.{or_assoc}
+use Rattle.std.proofs.Math.Seq.{drop-cons}
+use Rattle.std.proofs.lemmas.Bool.{eqb-true, eq-eqb, or_left, or_right, or_cases, and_parts, and_from}
+use Rattle.std.proofs.lemmas.List.{append-nil, take_all, take_more, take-append-le, map-append}
+use Rattle.std.proofs.lemmas.List.Folds.{list_any-append}
+use Rattle.std.proofs.lemmas.List.Sums.{fold-append}
+use Rattle.std.proofs.lemmas.List.Elements.{All-nil, All-head, All-tail, All-contains, All-filter, All-contains_itself, All-map, All-weaker, filter-append}
+use Rattle.std.proofs.lemmas.Map.Steps.{length-le_from_distinct_below}
+use Rattle.indexmap.specs.IndexSet.{insert_key, insert_all}
+use Rattle.net_base.specs.Keys.{is_among}
+use Rattle.flow_net.specs.declared.net.Net.{Net}
+use Rattle.flow_net.specs.declared.net.Flow.{Flow}
+use Rattle.flow_net.specs.Arcs.{Arc, arcs_of}
+use Rattle.stage_flow.specs.Residual.{Way, ways_on, ways_of, vertex_count}
+use Rattle.stage_flow.specs.Rounds.{is_reach}
+use Rattle.stage_flow.specs.LawsOfWalks.{IsTight, IsTightWalk, IsInLayer, EndsAreVertices, led_by, label}
+use Rattle.stage_flow.specs.Given.{touches, numbers_at}
+use Rattle.stage_flow.specs.Sending.{arc_at, residual, ways_by, AreRead, is_tight, leads_on, heads_of, AreReached}
+use Rattle.stage_flow.proofs.Labels.{IsLow, tight_walk-push, tight_walk-tail}
+use Rattle.stage_flow.proofs.Path.{is_reach-is, is_reach-same}
+use Rattle.stage_flow.proofs.Units.{arc-low}
+use Rattle.stage_flow.proofs.Along.{way-on, way-on_arc, adding-there, taking-there, ways-there, adding-in, taking-in}
+use Rattle.stage_flow.proofs.Round.{ways-low}
+use Rattle.stage_flow.proofs.SendingArcs.{arc_at-there, arc_at-is}
+
+-- ---- What is read is there
+read-low : (net : Net) (flow : Flow) (far : List ℤ) (hops : List ℕ) (number : ℕ) (takes : Bool) (way : Way) → AreRead net flow far hops → number / 2 < length net.pins → way ≡ residual takes (arc_at net number) → IsLow (vertex_count net) way
+read-low net flow far hops number takes way read within is =
+    let low = All-contains (λ (arc : Arc). (arc.tail < vertex_count net) × (arc.head < vertex_count net)) (arcs_of net) (arc_at net number) read.ends (arc_at-there net number within) in
+    subst (IsLow (vertex_count net)) (sym is) (by takes low.0 low.1)
+  where
+    by : (takes : Bool) → (arc_at net number).tail < vertex_count net → (arc_at net number).head < vertex_count net → IsLow (vertex_count net) (residual takes (arc_at net number))
+    by true tail head = (head, tail)
+    by false tail head = (tail, head)
+
+pub read-far : (net : Net) (flow : Flow) (far : List ℤ) (hops : List ℕ) (number : ℕ) (takes : Bool) (way : Way) → AreRead net flow far hops → number / 2 < length net.pins → way ≡ residual takes (arc_at net number) → (way.tail < length far) × (way.head < length far)
+read-far net flow far hops number takes way read within is =
+    let low = read-low net flow far hops number takes way read within is in
+    (omega (arith, low.0, read.each_far), omega (arith, low.1, read.each_far))
+
+pub read-hops : (net : Net) (flow : Flow) (far : List ℤ) (hops : List ℕ) (number : ℕ) (takes : Bool) (way : Way) → AreRead net flow far hops → number / 2 < length net.pins → way ≡ residual takes (arc_at net number) → (way.tail < length hops) × (way.head < length hops)
+read-hops net flow far hops number takes way read within is =
+    let low = read-low net flow far hops number takes way read within is in
+    (omega (arith, low.0, read.each_hops), omega (arith, low.1, read.each_hops))
+
+-- ---- The residual arcs at a vertex
+filter-there : (test : Arc → Bool) (arcs : List Arc) (arc : Arc) → Contains arcs arc → test arc ≡ true → Contains (filter test arcs) arc
+filter-there test [] arc (k, within, is) passes = absurd (omega arith)
+filter-there test (first ∷ arcs) arc (zero, within, is) passes =
+    let own : test first ≡ true = ap test is ∙ passes in
+    subst (λ b. Contains (cond b (first ∷ filter test arcs) (filter test arcs)) arc) (sym own) (0, omega arith, is)
+filter-there test (first ∷ arcs) arc (suc k, within, is) passes = by (test first) (filter-there test arcs arc (k, omega arith, is) passes)
+  where
+    by : (b : Bool) → Contains (filter test arcs) arc → Contains (cond b (first ∷ filter test arcs) (filter test arcs)) arc
+    by true (j, inside, at) = (suc j, omega arith, at)
+    by false rest = rest
+
+-- those of the arcs that touch it
+abbrev pub ways_near : Net → Flow → ℕ → List Way
+ways_near net flow vertex = flat_map (ways_on flow) (filter (touches vertex) (arcs_of net))
+
+near-there : (net : Net) (vertex : ℕ) → All (Contains (arcs_of net)) (filter (touches vertex) (arcs_of net))
+near-there net vertex = All-filter (touches vertex) (Contains (arcs_of net)) (arcs_of net) (All-contains_itself (arcs_of net))
+
+pub ways_by-near : (net : Net) (flow : Flow) (vertex : ℕ) → ways_by net flow (numbers_at net vertex) ≡ ways_near net flow vertex
+ways_by-near net flow vertex = each (filter (touches vertex) (arcs_of net)) (near-there net vertex)
+  where
+    each : (arcs : List Arc) → All (Contains (arcs_of net)) arcs → ways_by net flow (map (λ (arc : Arc). arc.number) arcs) ≡ flat_map (ways_on flow) arcs
+    each [] there = refl
+    each (arc ∷ arcs) there =
+        let own = arc_at-is net arc (All-head (Contains (arcs_of net)) arc arcs there) in
+        let rest = each arcs (All-tail (Contains (arcs_of net)) arc arcs there) in
+        ap (λ (a : Arc). ways_on flow a ++ ways_by net flow (map (λ (one : Arc). one.number) arcs)) own ∙ ap (λ ways. ways_on flow arc ++ ways) rest
+
+pub numbers-low : (net : Net) (vertex : ℕ) → All (λ number. number / 2 < length net.pins) (numbers_at net vertex)
+numbers-low net vertex =
+    All-map (λ number. number / 2 < length net.pins) (λ (arc : Arc). arc.number) (filter (touches vertex) (arcs_of net))
+    (All-weaker (Contains (arcs_of net)) (λ (arc : Arc). arc.number / 2 < length net.pins) (λ arc there. arc-low net arc there) (filter (touches vertex) (arcs_of net)) (near-there net vertex))
+
+pub near-from : (net : Net) (flow : Flow) (vertex : ℕ) (way : Way) → Contains (ways_near net flow vertex) way → Contains (ways_of net flow) way
+near-from net flow vertex way there =
+    let on = way-on_arc flow (filter (touches vertex) (arcs_of net)) way there in
+    let inside = All-contains (Contains (arcs_of net)) (filter (touches vertex) (arcs_of net)) on.arc (near-there net vertex) on.there in
+    ⊎_elim {C = Contains (ways_of net flow) way}
+    (λ adds. subst (Contains (ways_of net flow)) (sym adds) (adding-in net flow on.arc inside))
+    (λ takes. subst (Contains (ways_of net flow)) (sym takes.0) (taking-in net flow on.arc inside takes.1)) on.is
+
+pub near-to : (net : Net) (flow : Flow) (vertex : ℕ) (way : Way) → Contains (ways_of net flow) way → (way.tail ≡ vertex) ⊎ (way.head ≡ vertex) → Contains (ways_near net flow vertex) way
+near-to net flow vertex way there at =
+    let on = way-on net flow way there in
+    ⊎_elim {C = Contains (ways_near net flow vertex) way}
+    (λ adds.
+    let touch : touches vertex on.arc ≡ true =
+    ⊎_elim {C = touches vertex on.arc ≡ true}
+    (λ tail. or_left (on.arc.tail == vertex) (on.arc.head == vertex) (eq-eqb on.arc.tail vertex (sym (ap (λ (w : Way). w.tail) adds) ∙ tail)))
+    (λ head. or_right (on.arc.tail == vertex) (on.arc.head == vertex) (eq-eqb on.arc.head vertex (sym (ap (λ (w : Way). w.head) adds) ∙ head))) at in
+    ways-there flow (filter (touches vertex) (arcs_of net)) on.arc way (filter-there (touches vertex) (arcs_of net) on.arc on.there touch)
+    (subst (Contains (ways_on flow on.arc)) (sym adds) (adding-there flow on.arc)))
+    (λ takes.
+    let touch : touches vertex on.arc ≡ true =
+    ⊎_elim {C = touches vertex on.arc ≡ true}
+    (λ tail. or_right (on.arc.tail == vertex) (on.arc.head == vertex) (eq-eqb on.arc.head vertex (sym (ap (λ (w : Way). w.tail) takes.0) ∙ tail)))
+    (λ head. or_left (on.arc.tail == vertex) (on.arc.head == vertex) (eq-eqb on.arc.tail vertex (sym (ap (λ (w : Way). w.head) takes.0) ∙ head))) at in
+    ways-there flow (filter (touches vertex) (arcs_of net)) on.arc way (filter-there (touches vertex) (arcs_of net) on.arc on.there touch)
+    (subst (Contains (ways_on flow on.arc)) (sym takes.0) (taking-there flow on.arc takes.1)))
+    on.is
+
+-- ---- Tight arcs by their test
+pub tight-test : (far : ℕ → ℤ) (hops : ℕ → ℕ) (way : Way) → IsTight far hops way → is_tight far hops way ≡ true
+tight-test far hops way tight =
+    subst (λ r. is_reach (Some (led_by way (label far hops way.head))) r ≡ true) tight (is_reach-same (led_by way (label far hops way.head)))
+
+pub test-tight : (far : ℕ → ℤ) (hops : ℕ → ℕ) (way : Way) → is_tight far hops way ≡ true → IsTight far hops way
+test-tight far hops way test =
+    let is = is_reach-is (Some (led_by way (label far hops way.head))) (label far hops way.tail) test in
+    let same : led_by way (label far hops way.head) ≡ label far hops way.tail = cc in
+    same
+
+-- ---- Heads of tight arcs out of a vertex
+heads-append : (far : ℕ → ℤ) (hops : ℕ → ℕ) (vertex : ℕ) (a b : List Way) → heads_of far hops vertex (a ++ b) ≡ heads_of far hops vertex a ++ heads_of far hops vertex b
+heads-append far hops vertex a b =
+    ap (map (λ (way : Way). way.head)) (filter-append (leads_on far hops vertex) a b) ∙ map-append (λ (way : Way). way.head) (filter (leads_on far hops vertex) a) (filter (leads_on far hops vertex) b)
+
+-- What is reached over one arc more, and then over the rest.
+pub reached-step : (net : Net) (flow : Flow) (far : ℕ → ℤ) (hops : ℕ → ℕ) (vertex : ℕ) (numbers : List ℕ) (i : ℕ) (keys next : List ℕ) → i < length numbers
+    → next ≡ insert_all nat_eq keys (heads_of far hops vertex (ways_on flow (arc_at net (get_or numbers i 0))))
+    → insert_all nat_eq next (heads_of far hops vertex (ways_by net flow (drop (i + 1) numbers))) ≡ insert_all nat_eq keys (heads_of far hops vertex (ways_by net flow (drop i numbers)))
+reached-step net flow far hops vertex numbers i keys next within is =
+    let own = ways_on flow (arc_at net (get_or numbers i 0)) in
+    let rest = ways_by net flow (drop (i + 1) numbers) in
+    let first : drop i numbers ≡ get_or numbers i 0 ∷ drop (i + 1) numbers = drop-cons numbers i 0 within ∙ ap (λ n. get_or numbers i 0 ∷ drop n numbers) (let h : suc i ≡ i + 1 = omega arith in h) in
+    ap (λ ks. insert_all nat_eq ks (heads_of far hops vertex rest)) is
+    ∙ sym (fold-append (insert_key nat_eq) keys (heads_of far hops vertex own) (heads_of far hops vertex rest))
+    ∙ ap (insert_all nat_eq keys) (sym (heads-append far hops vertex own rest))
+    ∙ ap (λ ns. insert_all nat_eq keys (heads_of far hops vertex (ways_by net flow ns))) (sym first)
+
+head-among : (far : ℕ → ℤ) (hops : ℕ → ℕ) (vertex : ℕ) (ways : List Way) (way : Way) → Contains ways way → way.tail ≡ vertex → IsTight far hops way → is_among nat_eq way.head (heads_of far hops vertex ways) ≡ true
+head-among far hops vertex [] way (k, within, is) begins tight = absurd (omega arith)
+head-among far hops vertex (first ∷ ways) way (zero, within, is) begins tight =
+    let test : leads_on far hops vertex way ≡ true = and_from (way.tail == vertex) (is_tight far hops way) (eq-eqb way.tail vertex begins) (tight-test far hops way tight) in
+    let own : leads_on far hops vertex first ≡ true = ap (leads_on far hops vertex) is ∙ test in
+    let here : nat_eq way.head first.head ≡ true = eq-eqb way.head first.head (sym (ap (λ (w : Way). w.head) is)) in
+    subst (λ b. is_among nat_eq way.head (map (λ (w : Way). w.head) (cond b (first ∷ filter (leads_on far hops vertex) ways) (filter (leads_on far hops vertex) ways))) ≡ true) (sym own)
+    (or_left (nat_eq way.head first.head) (is_among nat_eq way.head (heads_of far hops vertex ways)) here)
+head-among far hops vertex (first ∷ ways) way (suc k, within, is) begins tight =
+    by (leads_on far hops vertex first) (head-among far hops vertex ways way (k, omega arith, is) begins tight)
+  where
+    by : (b : Bool) → is_among nat_eq way.head (heads_of far hops vertex ways) ≡ true → is_among nat_eq way.head (map (λ (w : Way). w.head) (cond b (first ∷ filter (leads_on far hops vertex) ways) (filter (leads_on far hops vertex) ways))) ≡ true
+    by true rest = or_right (nat_eq way.head first.head) (is_among nat_eq way.head (heads_of far hops vertex ways)) rest
+    by false rest = rest
+
+-- a tight arc from a vertex to another
+record Leads (far : ℕ → ℤ) (hops : ℕ → ℕ) (ways : List Way) (vertex to : ℕ) : Type 0 where
+  way : Way
+  there : Contains ways way
+  begins : way.tail ≡ vertex
+  tight : IsTight far hops way
+  ends : way.head ≡ to
+
+among-head : (far : ℕ → ℤ) (hops : ℕ → ℕ) (vertex : ℕ) (ways : List Way) (x : ℕ) → is_among nat_eq x (heads_of far hops vertex ways) ≡ true → Leads far hops ways vertex x
+among-head far hops vertex [] x among = absurd (true≢false (sym among))
+among-head far hops vertex (first ∷ ways) x among = by (leads_on far hops vertex first) refl among (among-head far hops vertex ways x)
+  where
+    later : Leads far hops ways vertex x → Leads far hops (first ∷ ways) vertex x
+    later rest = let (k, within, is) = rest.there in record { way = rest.way; there = (suc k, omega arith, is); begins = rest.begins; tight = rest.tight; ends = rest.ends }
+
+    by : (b : Bool) → leads_on far hops vertex first ≡ b → is_among nat_eq x (map (λ (w : Way). w.head) (cond b (first ∷ filter (leads_on far hops vertex) ways) (filter (leads_on far hops vertex) ways))) ≡ true → (is_among nat_eq x (heads_of far hops vertex ways) ≡ true → Leads far hops ways vertex x) → Leads far hops (first ∷ ways) vertex x
+    by true own among next =
+        ⊎_elim {C = Leads far hops (first ∷ ways) vertex x}
+        (λ here.
+        let parts = and_parts (first.tail == vertex) (is_tight far hops first) own in
+        record { way = first; there = (0, omega arith, refl); begins = eqb-true first.tail vertex parts.0; tight = test-tight far hops first parts.1; ends = sym (eqb-true x first.head here) })
+        (λ rest. later (next rest)) (or_cases (nat_eq x first.head) (is_among nat_eq x (heads_of far hops vertex ways)) among)
+    by false own among next = later (next among)
+
+-- ---- Keys among those that were inserted
+or-false : (b : Bool) → (b || false) ≡ b
+or-false true = refl
+or-false false = refl
+
+key-grows : (keys : List ℕ) (key : ℕ) → (more : List ℕ) × (insert_key nat_eq keys key ≡ keys ++ more)
+key-grows keys key = by (is_among nat_eq key keys)
+  where
+    by : (b : Bool) → (more : List ℕ) × (cond b keys (keys ++ key ∷ []) ≡ keys ++ more)
+    by true = ([], sym (append-nil keys))
+    by false = (key ∷ [], refl)
+
+key-among : (keys : List ℕ) (key x : ℕ) → is_among nat_eq x (insert_key nat_eq keys key) ≡ (is_among nat_eq x keys || nat_eq x key)
+key-among keys key x = by (is_among nat_eq key keys) refl
+  where
+    there : (b : Bool) → nat_eq x key ≡ b → is_among nat_eq key keys ≡ true → is_among nat_eq x keys ≡ (is_among nat_eq x keys || b)
+    there true same among = subst (λ y. is_among nat_eq y keys ≡ (is_among nat_eq y keys || true)) (sym (eqb-true x key same)) (among ∙ sym (or_left (is_among nat_eq key keys) true among))
+    there false other among = sym (or-false (is_among nat_eq x keys))
+
+    by : (b : Bool) → is_among nat_eq key keys ≡ b → is_among nat_eq x (cond b keys (keys ++ key ∷ [])) ≡ (is_among nat_eq x keys || nat_eq x key)
+    by true among = there (nat_eq x key) refl among
+    by false among = list_any-append (nat_eq x) keys (key ∷ []) ∙ ap (λ b. is_among nat_eq x keys || b) (or-false (nat_eq x key))
+
+keys-grow : (keys more : List ℕ) → (rest : List ℕ) × (insert_all nat_eq keys more ≡ keys ++ rest)
+keys-grow keys [] = ([], sym (append-nil keys))
+keys-grow keys (key ∷ more) =
+    let first = key-grows keys key in
+    let rest = keys-grow (insert_key nat_eq keys key) more in
+    (first.0 ++ rest.0, rest.1 ∙ ap (λ ks. ks ++ rest.0) first.1 ∙ append_assoc keys first.0 rest.0)
+
+keys-among : (keys more : List ℕ) (x : ℕ) → is_among nat_eq x (insert_all nat_eq keys more) ≡ (is_among nat_eq x keys || is_among nat_eq x more)
+keys-among keys [] x = sym (or-false (is_among nat_eq x keys))
+keys-among keys (key ∷ more) x =
+    keys-among (insert_key nat_eq keys key) more x
+    ∙ ap (λ b. b || is_among nat_eq x more) (key-among keys key x)
+    ∙ or_assoc (is_among nat_eq x keys) (nat_eq x key) (is_among nat_eq x more)
+
+pub at-among : (xs : List ℕ) (i x : ℕ) → i < length xs → x ≡ get_or xs i 0 → is_among nat_eq x xs ≡ true
+at-among [] i x within at = absurd (omega arith)
+at-among (y ∷ xs) zero x within at = or_left (nat_eq x y) (is_among nat_eq x xs) (eq-eqb x y at)
+at-among (y ∷ xs) (suc i) x within at = or_right (nat_eq x y) (is_among nat_eq x xs) (at-among xs i x (omega arith) at)
+
+-- ---- The search
+-- while vertices are reached: the first few of them have the heads of their tight arcs there
+pub record ReachesOn (net : Net) (flow : Flow) (far : ℕ → ℤ) (hops : ℕ → ℕ) (from : ℕ) (reached : List ℕ) (next : ℕ) : Type 0 where
+  pub few : next ≤ length reached
+  pub start : is_among nat_eq from reached ≡ true
+  pub found : (x : ℕ) → is_among nat_eq x reached ≡ true → (steps : ℕ) × IsInLayer far hops (ways_of net flow) from steps x
+  pub low : (x : ℕ) → is_among nat_eq x reached ≡ true → x < vertex_count net
+  pub closed : (x : ℕ) → is_among nat_eq x (take next reached) ≡ true → (way : Way) → Contains (ways_of net flow) way → way.tail ≡ x → IsTight far hops way → is_among nat_eq way.head reached ≡ true
+
+only : (x y : ℕ) → is_among nat_eq x (y ∷ []) ≡ true → x ≡ y
+only x y among = eqb-true x y (⊎_elim {C = nat_eq x y ≡ true} (λ same. same) (λ none. absurd (true≢false (sym none))) (or_cases (nat_eq x y) false among))
+
+pub reaches-first : (net : Net) (flow : Flow) (far : ℕ → ℤ) (hops : ℕ → ℕ) (from : ℕ) (reached : List ℕ) → reached ≡ from ∷ [] → from < vertex_count net → ReachesOn net flow far hops from reached 0
+reaches-first net flow far hops from reached is within =
+    let among : (x : ℕ) → is_among nat_eq x reached ≡ true → x ≡ from = λ x there. only x from (ap (is_among nat_eq x) (sym is) ∙ there) in record {
+      few = omega arith;
+      start = ap (is_among nat_eq from) is ∙ or_left (nat_eq from from) false (eq-eqb from from refl);
+      found = λ x there. (0, record { walk = []; tight = record { goes = sym (among x there); tight = All-nil (IsTight far hops) }; long = refl });
+      low = λ x there. (let same = among x there in omega (arith, same));
+      closed = λ x there way inside begins tight. absurd (true≢false (sym there));
+    }
+
+pub reaches-next : (net : Net) (flow : Flow) (far : ℕ → ℤ) (hops : ℕ → ℕ) (from : ℕ) (reached : List ℕ) (next vertex : ℕ) (new : List ℕ) → EndsAreVertices net → next < length reached → vertex ≡ get_or reached next 0
+    → new ≡ insert_all nat_eq reached (heads_of far hops vertex (ways_near net flow vertex)) → ReachesOn net flow far hops from reached next → ReachesOn net flow far hops from new (next + 1)
+reaches-next net flow far hops from reached next vertex new ends within here is was =
+    let near = ways_near net flow vertex in
+    let heads = heads_of far hops vertex near in
+    let grown = keys-grow reached heads in
+    let whole : new ≡ reached ++ grown.0 = is ∙ grown.1 in
+    let among_new : (x : ℕ) → is_among nat_eq x new ≡ (is_among nat_eq x reached || is_among nat_eq x heads) = λ x. ap (is_among nat_eq x) is ∙ keys-among reached heads x in
+    let old : (x : ℕ) → is_among nat_eq x reached ≡ true → is_among nat_eq x new ≡ true =
+    λ x among. among_new x ∙ or_left (is_among nat_eq x reached) (is_among nat_eq x heads) among in
+    let looked : take (next + 1) new ≡ take next reached ++ vertex ∷ [] =
+    ap (take (next + 1)) whole ∙ take-append-le (next + 1) reached grown.0 (omega arith) ∙ take_more reached next 0 within ∙ ap (λ s. take next reached ++ s ∷ []) (sym here) in
+    let itself : is_among nat_eq vertex reached ≡ true = at-among reached next vertex within here in
+    let low = ways-low net flow ends in
+    record {
+      few = omega (arith, ap length whole, length-append reached grown.0);
+      start = old from was.start;
+      found = λ x among.
+          ⊎_elim {C = (steps : ℕ) × IsInLayer far hops (ways_of net flow) from steps x} (λ before. was.found x before)
+          (λ head.
+          let leads = among-head far hops vertex near x head in
+          let (steps, layer) = was.found vertex itself in
+          let inside = near-from net flow vertex leads.way leads.there in (
+            length (layer.walk ++ leads.way ∷ []),
+            record {
+              walk = layer.walk ++ leads.way ∷ [];
+              tight = subst (λ v. IsTightWalk far hops (ways_of net flow) from v (layer.walk ++ leads.way ∷ [])) leads.ends (tight_walk-push far hops (ways_of net flow) from vertex layer.walk leads.way layer.tight inside leads.begins leads.tight);
+              long = refl;
+            },
+          ))
+          (or_cases (is_among nat_eq x reached) (is_among nat_eq x heads) (sym (among_new x) ∙ among));
+      low = λ x among.
+          ⊎_elim {C = x < vertex_count net} (λ before. was.low x before)
+          (λ head.
+          let leads = among-head far hops vertex near x head in
+          let ends = All-contains (IsLow (vertex_count net)) (ways_of net flow) leads.way low (near-from net flow vertex leads.way leads.there) in
+          let same = leads.ends in
+          omega (arith, ends.1, same))
+          (or_cases (is_among nat_eq x reached) (is_among nat_eq x heads) (sym (among_new x) ∙ among));
+      closed = λ x among way inside begins tight.
+          ⊎_elim {C = is_among nat_eq way.head new ≡ true} (λ before. old way.head (was.closed x before way inside begins tight))
+          (λ last.
+          let at : way.tail ≡ vertex = begins ∙ only x vertex last in
+          among_new way.head
+          ∙ or_right (is_among nat_eq way.head reached) (is_among nat_eq way.head heads) (head-among far hops vertex near way (near-to net flow vertex way inside (inl at)) at tight))
+          (or_cases (is_among nat_eq x (take next reached)) (is_among nat_eq x (vertex ∷ [])) (sym (list_any-append (nat_eq x) (take next reached) (vertex ∷ [])) ∙ ap (is_among nat_eq x) (sym looked) ∙ among));
+    }
+
+-- There are no more than the vertices,
+pub reaches-few : (net : Net) (flow : Flow) (far : ℕ → ℤ) (hops : ℕ → ℕ) (from : ℕ) (reached : List ℕ) (next : ℕ) → IsDistinct nat_eq reached → ReachesOn net flow far hops from reached next → length reached ≤ vertex_count net
+reaches-few net flow far hops from reached next distinct was = length-le_from_distinct_below reached (vertex_count net) distinct was.low
+
+-- and at the end all are reached.
+pub reaches-all : (net : Net) (flow : Flow) (far : ℕ → ℤ) (hops : ℕ → ℕ) (from : ℕ) (reached : List ℕ) (next : ℕ) → length reached ≤ next → ReachesOn net flow far hops from reached next → AreReached net flow far hops from reached
+reaches-all net flow far hops from reached next all was = record {
+  found = was.found;
+  low = was.low;
+  all = λ vertex steps layer. along from layer.walk vertex layer.tight was.start;
+}
+  where
+    along : (at : ℕ) (walk : List Way) (vertex : ℕ) → IsTightWalk far hops (ways_of net flow) at vertex walk → is_among nat_eq at reached ≡ true → is_among nat_eq vertex reached ≡ true
+    along at [] vertex tight among = subst (λ v. is_among nat_eq v reached ≡ true) tight.goes among
+    along at (way ∷ walk) vertex tight among =
+        let (there, begins, goes) = tight.goes in
+        let own = All-head (IsTight far hops) way walk tight.tight in
+        along way.head walk vertex (tight_walk-tail far hops (ways_of net flow) at vertex way walk tight)
+        (was.closed at (ap (is_among nat_eq at) (take_all next reached all) ∙ among) way there begins own)

@@ -1,0 +1,88 @@
+-- How a round is read off labels: residual arcs by the numbers of their arcs, tight ones, and what they reach.
+use Rattle.std.specs.Prelude.{◌≡◌, ◌<◌, ◌/◌, ◌%◌, ◌^◌, ◌==◌, ◌&&◌, ◌-◌, ◌-ℤ◌, ℕ, ℤ, pos, nat_eq, Bool, true, false, cond, List, [], ◌∷◌, length, map, filter, slice_index, slice_index_or, Option, Some}
+use Rattle.std.specs.List.{flat_map}
+use Rattle.net_base.specs.Keys.{is_among}
+use Rattle.flow_net.specs.declared.net.Pin.{Pin}
+use Rattle.flow_net.specs.declared.net.Net.{Net}
+use Rattle.flow_net.specs.declared.net.Units.{Units}
+use Rattle.flow_net.specs.declared.net.Flow.{Flow}
+use Rattle.flow_net.specs.Arcs.{Arc, mirror_of}
+use Rattle.flow_net.specs.Flows.{pin_units}
+use Rattle.stage_flow.specs.declared.ways.Step.{Step}
+use Rattle.stage_flow.specs.Residual.{Way, adding, taking, ways_on, ways_of, vertex_count}
+use Rattle.stage_flow.specs.Rounds.{is_reach, or_lesser, along}
+use Rattle.stage_flow.specs.LawsOfWalks.{led_by, label, EndsAreVertices, IsInLayer}
+
+-- ---- Residual arcs by numbers
+-- a residual arc of the code
+abbrev pub way_of : Step → Way
+way_of step = record { tail = step.tail; head = step.head; length = step.length; number = step.number; takes = step.takes }
+
+-- the arc of a pin with a number: the forward one, or the back one
+abbrev pub arc_by : Bool → Net → Pin → ℕ → Arc
+arc_by true net pin number = record { tail = pin.from; head = pin.to; length = pos pin.weight; number = number }
+arc_by false net pin number = record { tail = pin.to; head = mirror_of net pin.driver; length = pos 0 -ℤ pos pin.weight; number = number }
+
+-- the pin at a place
+abbrev pub pin_at : Net → ℕ → Pin
+pin_at net place = slice_index_or net.pins place (record { driver = 0; from = 0; to = 0; weight = 0 })
+
+-- the arc with a number
+abbrev pub arc_at : Net → ℕ → Arc
+arc_at net number = arc_by (number % 2 == 0) net (pin_at net (number / 2)) number
+
+-- the residual arc on an arc that takes a unit back, or adds one
+abbrev pub residual : Bool → Arc → Way
+residual true arc = taking arc
+residual false arc = adding arc
+
+-- the residual arcs of arcs with these numbers
+abbrev pub ways_by : Net → Flow → List ℕ → List Way
+ways_by net flow numbers = flat_map (λ number. ways_on flow (arc_at net number)) numbers
+
+-- What is read: a network with less than 2^32 vertices, units for each pin, and labels for each vertex.
+pub record AreRead (net : Net) (flow : Flow) (far : List ℤ) (hops : List ℕ) : Type 0 where
+  pub few : vertex_count net < 2 ^ 32
+  pub ends : EndsAreVertices net
+  pub units : length flow.pins ≡ length net.pins
+  pub each_far : length far ≡ vertex_count net
+  pub each_hops : length hops ≡ vertex_count net
+
+-- ---- What tight arcs reach
+-- a residual arc is tight
+abbrev pub is_tight : (ℕ → ℤ) → (ℕ → ℕ) → Way → Bool
+is_tight far hops way = is_reach (Some (led_by way (label far hops way.head))) (label far hops way.tail)
+
+-- a residual arc is tight and leads on from a vertex
+abbrev pub leads_on : (ℕ → ℤ) → (ℕ → ℕ) → ℕ → Way → Bool
+leads_on far hops vertex way = (way.tail == vertex) && is_tight far hops way
+
+-- the heads of the tight ones among residual arcs that lead on from a vertex
+abbrev pub heads_of : (ℕ → ℤ) → (ℕ → ℕ) → ℕ → List Way → List ℕ
+heads_of far hops vertex ways = map (λ (way : Way). way.head) (filter (leads_on far hops vertex) ways)
+
+-- vertices are those that tight arcs reach from one, by any number of steps
+pub record AreReached (net : Net) (flow : Flow) (far : ℕ → ℤ) (hops : ℕ → ℕ) (from : ℕ) (reached : List ℕ) : Type 0 where
+  pub found : (vertex : ℕ) → is_among nat_eq vertex reached ≡ true → (steps : ℕ) × IsInLayer far hops (ways_of net flow) from steps vertex
+  pub low : (vertex : ℕ) → is_among nat_eq vertex reached ≡ true → vertex < vertex_count net
+  pub all : (vertex steps : ℕ) → IsInLayer far hops (ways_of net flow) from steps vertex → is_among nat_eq vertex reached ≡ true
+
+-- ---- The path, read backwards
+-- a tight residual arc into a vertex that comes from one of those that were reached
+abbrev pub comes_last : (ℕ → ℤ) → (ℕ → ℕ) → List ℕ → ℕ → Way → Bool
+comes_last far hops reached vertex way = (way.head == vertex) && (is_tight far hops way && is_among nat_eq way.tail reached)
+
+-- the least of the residual arcs that pass a test
+abbrev pub least_by : (Way → Bool) → Option Way → List Way → Option Way
+least_by test found [] = found
+least_by test found (way ∷ ways) = least_by test (or_lesser (test way) way found) ways
+
+-- ---- One unit along a path
+-- the units of a pin's forward arc where the number is even, and else of its back arc
+abbrev pub side : ℕ → Units → ℕ
+side number units = cond (number % 2 == 0) units.forward units.back
+
+-- Each arc of a path is there, and has room for a unit when the path comes to it.
+abbrev pub HasRoom : List Way → Flow → Type 0
+HasRoom [] flow = Unit {0}
+HasRoom (way ∷ ways) flow = (way.number / 2 < length flow.pins) × (slice_index (flat_map pin_units flow.pins) way.number < 2 ^ 32 - 1) × HasRoom ways (along way flow)

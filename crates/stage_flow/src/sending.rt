@@ -1,0 +1,89 @@
+//! One round, given labels: the receiver, the path, and one unit along it.
+
+ghost use Rattle.std.specs.Prelude.{◌≡◌, ◌<◌, ◌-◌, ◌^◌, Some, length, map, All, OnOk, OnErr};
+ghost use Rattle.flow_net.specs.declared.net.Units.{Units as TheUnits};
+ghost use Rattle.stage_flow.specs.Residual.{vertex_count};
+ghost use Rattle.stage_flow.specs.Rounds.{sender, after_round};
+ghost use Rattle.stage_flow.specs.Given.{IsNetwork, AreIncidences, at_vertex, count_at};
+ghost use Rattle.stage_flow.specs.Rounds as rounds;
+ghost use Rattle.stage_flow.specs.LawsOfWalks.{AreLabels, HasUnits};
+ghost use Rattle.stage_flow.specs.Sending.{way_of, side, HasRoom};
+
+use crate::incidence::Incidence;
+use crate::search::Labels;
+use crate::tight::find_path;
+use crate::ways::Step;
+use flow_net::{Flow, Net, Units};
+use net_base::{List, NoMemory};
+use std::alloc::Global;
+use std::mem::replace;
+
+// One more, or one less.
+fn moved(takes: bool, count: u32) -> u32
+    requires { count < 2 ^ 32 - 1 }
+    ensures { result ≡ rounds.moved takes count }
+{
+    if takes {
+        count.saturating_sub(1)
+    } else {
+        count + 1
+    }
+}
+
+// One unit along a residual arc.
+fn with_unit(step: Step, units: Units) -> Units
+    requires { side step.number units < 2 ^ 32 - 1 }
+    ensures { result ≡ rounds.with_unit (way_of step) units }
+{
+    let Units { forward, back } = units;
+    if step.number % 2 == 0 {
+        Units {
+            forward: moved(step.takes, forward),
+            back,
+        }
+    } else {
+        Units {
+            forward,
+            back: moved(step.takes, back),
+        }
+    }
+}
+
+// One unit along a path.
+fn send_along(units: &mut [Units], path: &[Step])
+    requires { HasRoom (map way_of path.now) (record { pins = units.old }) }
+    ensures { record { pins = units.new } ≡ rounds.sent_along (map way_of path.now) (record { pins = units.old }) }
+{
+    for step in path {
+        let place = (step.number / 2) as usize;
+        units[place] = with_unit(*step, units[place]);
+    }
+}
+
+/// Sends one unit from the sender, along the path that the labels show. After `NoMemory` the flow is unchanged.
+pub(crate) fn send(
+    alloc: Global,
+    net: &Net,
+    incidence: &Incidence,
+    labels: &Labels,
+    from: u32,
+    flow: &mut Flow,
+) -> Result<(), NoMemory>
+    requires net { IsNetwork net.now }
+    requires incidence { AreIncidences net.now incidence.now }
+    requires units { HasUnits net.now flow.old }
+    requires labels { AreLabels net.now flow.old (at_vertex labels.now.far) (count_at labels.now.hops) }
+    requires each { (length labels.now.far ≡ vertex_count net.now) × (length labels.now.hops ≡ vertex_count net.now) }
+    requires sender { sender net.now flow.old ≡ Some from }
+    requires room { All (λ (units : TheUnits). (units.forward < 2 ^ 32 - 1) × (units.back < 2 ^ 32 - 1)) flow.old.pins }
+    ensures ok { OnOk result (flow.new ≡ after_round net.now flow.old) }
+    ensures err { OnErr result (flow.new ≡ flow.old) }
+{
+    let path = find_path(alloc, net, incidence, flow, labels, from)?;
+    // All memory is taken, so from here on nothing fails.
+    let pins = replace(&mut flow.pins, List::new(alloc));
+    let mut units = pins.into_vec();
+    send_along(units.as_mut_slice(), path.as_slice());
+    flow.pins = List::from_vec(units);
+    Ok(())
+}
