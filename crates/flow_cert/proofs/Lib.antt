@@ -1,0 +1,6 @@
+mod Bounds
+mod Balances
+mod Sending
+mod Meaning
+pub mod CallerLemmas
+mod Examples

@@ -1,0 +1,3 @@
+pub mod Verdicts
+pub mod Meaning
+pub mod Sums
