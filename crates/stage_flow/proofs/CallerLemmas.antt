@@ -18,3 +18,12 @@ pub use Rattle.stage_flow.proofs.Round.{ways-low, fits-labelled, level-tight, se
 -- ---- What the laws ask of a network
 pub use Rattle.stage_flow.proofs.NetworkEnds.{IsPinLow, ends-are_vertices, network-pins_low, network-ends, network-light}
 pub use Rattle.stage_flow.proofs.Wanting.{wants-mirror, no_way_leaves_wanting}
+-- ---- That there are labels
+pub use Rattle.stage_flow.proofs.ShortWalks.{best_to-of_all}
+pub use Rattle.stage_flow.proofs.LabelsExist.{receiver_reach, receiver_far, receiver_hops, receiver_reach-best, best-labels, receiver-labels, labels-exist}
+pub use Rattle.stage_flow.proofs.RoundLabels.{sender-wanted, labels-exist_in_rounds, rounds-labels, rounds-are_full, fewest-exist}
+-- ---- Labels from the source
+pub use Rattle.stage_flow.proofs.SourceLabelsExist.{source_labels-exist}
+pub use Rattle.stage_flow.proofs.LeastEpochsExist.{least-exist}
+-- ---- What was sent
+pub use Rattle.stage_flow.proofs.RoundsSent.{rounds-sent}

@@ -17,7 +17,7 @@ use Rattle.stage_flow.specs.LawsOfWalks.{IsWalk, led_by, reach_of, label, IsFitt
 use Rattle.stage_flow.proofs.Walks.{IsNoBetter, no_better-test, no_better-same, no_better-through, both, reach-same, reach-tied, walk-push}
 
 -- An arc that leads on makes nothing better.
-no_better-led : (a b : Reach) (way : Way) → IsNoBetter a b → IsNoBetter (led_by way a) (led_by way b)
+pub no_better-led : (a b : Reach) (way : Way) → IsNoBetter a b → IsNoBetter (led_by way a) (led_by way b)
 no_better-led a b way first = record {
   no_longer = omega (arith, ints, first.no_longer);
   no_fewer = λ same. let left : a.length ≡ b.length = omega (arith, ints) in omega (arith, first.no_fewer left);
@@ -99,11 +99,11 @@ tight_walk-push far hops ways from to walk way tight there begins own = record {
 }
 
 -- the vertices that a walk comes through, its end among them
-abbrev stops : ℕ → List Way → List ℕ
+abbrev pub stops : ℕ → List Way → List ℕ
 stops to [] = to ∷ []
 stops to (way ∷ walk) = way.tail ∷ stops to walk
 
-length-stops : (to : ℕ) (walk : List Way) → length (stops to walk) ≡ length walk + 1
+pub length-stops : (to : ℕ) (walk : List Way) → length (stops to walk) ≡ length walk + 1
 length-stops to [] = refl
 length-stops to (way ∷ walk) = let rest = length-stops to walk in omega arith
 
@@ -111,7 +111,7 @@ length-stops to (way ∷ walk) = let rest = length-stops to walk in omega arith
 abbrev pub IsLow : ℕ → Way → Type 0
 IsLow bound way = (way.tail < bound) × (way.head < bound)
 
-stops-low : (bound : ℕ) (ways : List Way) (from to : ℕ) (walk : List Way) → All (IsLow bound) ways → IsWalk ways from to walk → to < bound → (q : ℕ) → list_any (eqb q) (stops to walk) ≡ true → q < bound
+pub stops-low : (bound : ℕ) (ways : List Way) (from to : ℕ) (walk : List Way) → All (IsLow bound) ways → IsWalk ways from to walk → to < bound → (q : ℕ) → list_any (eqb q) (stops to walk) ≡ true → q < bound
 stops-low bound ways from to [] low goes end q is =
     ⊎_elim {C = q < bound} (λ same. let h : q ≡ to = eqb-true q to same in omega arith) (λ none. absurd (cc)) (or_cases (eqb q to) false is)
 stops-low bound ways from to (way ∷ walk) low (there, begins, goes) end q is =

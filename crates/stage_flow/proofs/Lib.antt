@@ -27,6 +27,7 @@ pub mod CallerLemmas
 mod ExamplesOfWalks
 mod Examples
 mod ExamplesOfSending
+mod ExamplesOfLabels
 mod EpochExamples
 mod ResidualArcs
 mod Optimum
@@ -36,16 +37,28 @@ mod SourceLabels
 mod LeastLengths
 mod Unique
 mod LabelledRounds
+pub mod ShortWalks
+pub mod LabelsExist
+pub mod SourceLabelsExist
+pub mod RoundLabels
+mod LeastEpochsExist
+mod SourceTarget
 mod SendingArcs
 mod SendingSearch
 mod SendingPath
 mod SendingUnits
 mod SendingExamples
+mod IncidenceLists
 mod IncidenceRows
 mod ProgressNetworks
 mod ProgressSender
 mod ProgressUnits
+pub mod RoundsSent
 mod ProgressPotentials
 mod SolvingEpochs
 mod ProgressExamples
 mod SearchTests
+mod PassSteps
+mod PassPins
+mod PassRounds
+mod PassLabels

@@ -1,8 +1,7 @@
--- What progress keeps: before the first round nothing was sent, each round sends its sender's unit, and after all rounds the flow is
--- full. While rounds are left, a mirror wants.
+-- What was sent: nothing before the first round, and each round sends its sender's unit.
 use Rattle.std.proofs.Common.{◌≡◌, ◌≢◌, ◌<◌, ◌≤◌, ◌+◌, ◌-◌, ◌*◌, ◌==◌, ◌∙◌, ℕ, zero, suc, ℤ, pos, nat_lt, Bool, true, false, cond, List, [], ◌∷◌, length, get_or, replicate, All, Contains, Some, refl, sym, ap, subst, arith, ⊎_elim}
 use Rattle.std.specs.List.{flat_map}
-use Rattle.std.proofs.lemmas.Bool.{cases_lt, cases_eq}
+use Rattle.std.proofs.lemmas.Bool.{cases_eq}
 use Rattle.std.proofs.lemmas.Bool.Decides.{nat_tests}
 use Rattle.std.proofs.lemmas.Int.{ints}
 use Rattle.std.proofs.lemmas.List.Elements.{All-nil, All-cons, All-head, All-tail, Contains-get_or}
@@ -10,17 +9,14 @@ use Rattle.flow_net.specs.declared.net.Net.{Net}
 use Rattle.flow_net.specs.declared.net.Units.{Units}
 use Rattle.flow_net.specs.declared.net.Flow.{Flow}
 use Rattle.flow_net.specs.Arcs.{Arc, arcs_of}
-use Rattle.flow_net.specs.Flows.{pin_units, units_on, out_minus_in, IsFullFlow}
+use Rattle.flow_net.specs.Flows.{pin_units, units_on, out_minus_in}
 use Rattle.stage_flow.specs.Residual.{Way}
 use Rattle.stage_flow.specs.Rounds.{no_units, moved, path_of, after_round}
-use Rattle.stage_flow.specs.LawsOfSending.{SomeMirrorWants, MovesAUnit}
+use Rattle.stage_flow.specs.LawsOfSending.{MovesAUnit}
 use Rattle.stage_flow.specs.LawsOfWalks.{unit_at, IsRound}
 use Rattle.stage_flow.specs.UnderWay.{sent_in, sender_in, CarriesFew, HasSent}
-use Rattle.stage_flow.proofs.Linked.{IsUpward}
-use Rattle.stage_flow.proofs.Counting.{terms-same, below-same}
-use Rattle.stage_flow.proofs.Wants.{to_send, below-to_send, wanting-mirror}
+use Rattle.stage_flow.proofs.Wants.{wanting-mirror}
 use Rattle.stage_flow.proofs.Sent.{no_units-part, nothing_out, nothing_in, sent-part}
-use Rattle.stage_flow.proofs.AllRounds.{sent_by, all_sent, all_received, sent-received, sent-le, some-wants, all-full}
 use Rattle.stage_flow.proofs.Units.{length-arcs_from, arcs_from-number}
 use Rattle.stage_flow.proofs.ProgressSender.{sent-sender, sent-others, sender-has}
 
@@ -41,36 +37,6 @@ first-sent net = record {
   sent = λ vertex low. omega (arith, ints, nothing_out net vertex, nothing_in net vertex, none-sent net vertex);
   few = none-carried (length net.pins);
 }
-
--- ---- While rounds are left
-module _ (net : Net) (rounds : ℕ) (flow : Flow) (few : net.gates ≤ net.drivers) (pins : All (IsUpward net) net.pins) (sent : HasSent net rounds flow) where
-  sent_by-is : (vertex : ℕ) → vertex < net.gates + 2 → sent_by net flow vertex ≡ sent_in net rounds vertex
-  sent_by-is vertex low = omega (arith, ints, sent.sent vertex low)
-
-  pub mirror-wants : rounds < net.drivers → SomeMirrorWants net flow
-  mirror-wants more =
-      let from = sender_in net rounds in
-      let sends = sent-sender net rounds few more in
-      let received : all_sent net flow ≡ all_received net flow = sent-received net flow few pins sent.part in
-      some-wants net flow few pins sent.part
-      (⊎_elim {C = all_received net flow < net.drivers} (λ less. less)
-      (λ all.
-      let same = terms-same (sent_by net flow) (to_send net) (net.gates + 2) (sent-le net flow few pins sent.part) (omega (arith, all, received, below-to_send net few)) from sends.2 in
-      absurd (omega (arith, same, sent_by-is from sends.2, sends.1)))
-      (cases_lt (all_received net flow) net.drivers))
-
-  all-sent : net.drivers ≡ rounds → (vertex : ℕ) → sent_in net rounds vertex ≡ to_send net vertex
-  all-sent all zero = omega (arith, all)
-  all-sent all (suc k) = ap (λ b. cond b 1 0) same
-    where
-      same : nat_lt (net.drivers - net.gates + k) rounds ≡ nat_lt k net.gates
-      same = grind (arith, nat_tests)
-
-  -- After all rounds the flow is full.
-  pub rounds-full : net.drivers ≡ rounds → IsFullFlow net flow
-  rounds-full all =
-      let whole = below-same (to_send net) (sent_by net flow) (net.gates + 2) (λ k low. sent_by-is k low ∙ all-sent all k) in
-      all-full net flow few pins sent.part (omega (arith, sent-received net flow few pins sent.part, whole, below-to_send net few))
 
 -- ---- A round
 add-zero_left : (n : ℕ) → 2 * 0 + n ≡ n

@@ -60,7 +60,7 @@ none-best best found (vertex ∷ vertices) none =
         absurd (cc)
 
 -- What holds of all numbers of a range that pass a test holds of each that does.
-at_passing : (P : ℕ → Type 0) (test : ℕ → Bool) (a n k : ℕ) → All P (filter test (range_with_len a n)) → a ≤ k → k < a + n → test k ≡ true → P k
+pub at_passing : (P : ℕ → Type 0) (test : ℕ → Bool) (a n k : ℕ) → All P (filter test (range_with_len a n)) → a ≤ k → k < a + n → test k ≡ true → P k
 at_passing P test a zero k all from low passes = absurd (omega arith)
 at_passing P test a (suc n) k all from low passes =
     by (test a) refl all (λ rest next. at_passing P test (a + 1) n k rest next (omega arith) passes)
@@ -143,7 +143,7 @@ receiver-wants net flow from found is =
     found is
 
 -- ---- A round
-some-of : (found : Option Reached) → is_some found ≡ true → (one : Reached) × (found ≡ Some one)
+pub some-of : (found : Option Reached) → is_some found ≡ true → (one : Reached) × (found ≡ Some one)
 some-of None h = absurd (cc)
 some-of (Some one) h = (one, refl)
 

@@ -1,6 +1,6 @@
 -- Laws of epochs against flows. Potentials that fit a full flow give epochs with the fewest DROs, the lengths of longest walks from
 -- the source give the least of these, and there are no other least ones.
-use Rattle.std.specs.Prelude.{◌≡◌, ◌≢◌, ◌<◌, ◌+◌, ◌-◌, ◌+ℤ◌, ◌-ℤ◌, ◌≤ℤ◌, ℕ, ℤ, suc, pos, negsuc, List, [], length, map, replicate, All, Any, Bool, IsTrue, Some}
+use Rattle.std.specs.Prelude.{◌≡◌, ◌≢◌, ◌<◌, ◌+◌, ◌-◌, ◌+ℤ◌, ◌-ℤ◌, ◌≤ℤ◌, ℕ, ℤ, suc, pos, negsuc, List, [], length, map, replicate, All, Any, Bool, false, IsTrue, Some}
 use Rattle.std.specs.List.{range_with_len}
 use Rattle.gate_net.specs.declared.net.GateNet.{GateNet}
 use Rattle.gate_net.specs.Net.{IsGateNet, EachGateIsUsed}
@@ -12,8 +12,9 @@ use Rattle.flow_net.specs.Network.{network_of}
 use Rattle.flow_net.specs.Epochs.{epoch_at, dro_count, HasFewestDros}
 use Rattle.flow_net.specs.Flows.{IsFullFlow, flow_value}
 use Rattle.stage_flow.specs.Residual.{Way, ways_of, vertex_count}
-use Rattle.stage_flow.specs.Longest.{Reach}
+use Rattle.stage_flow.specs.Longest.{Reach, is_better}
 use Rattle.stage_flow.specs.Rounds.{best_to}
+use Rattle.stage_flow.specs.LawsOfWalks.{label}
 use Rattle.stage_flow.specs.LeastEpochs.{AreLeastEpochs}
 
 -- a residual arc is no longer than the potential rises on it
@@ -143,6 +144,22 @@ EveryVertexIsReached =
     → (vertex : ℕ)
     → vertex < vertex_count (network_of net phases)
     → IsTrue (met vertex)
+
+-- Labels from the source exist where potentials fit, and they are lengths of longest walks with the fewest arcs: no residual arc leads
+-- further than its head is labelled, nor as far by fewer arcs.
+abbrev pub LeadsNoFurther : (ℕ → ℤ) → (ℕ → ℕ) → Way → Type 0
+LeadsNoFurther far hops way = is_better (record { length = far way.tail +ℤ way.length; hops = suc (hops way.tail) }) (label far hops way.head) ≡ false
+
+abbrev pub SourceLabelsExist : Type 0
+SourceLabelsExist =
+    (net : GateNet) (phases : List ℕ) (flow : Flow) (potential : ℕ → ℤ)
+    → IsGateNet net
+    → EachGateIsUsed net
+    → uses_of net ≢ []
+    → FitsFlow (network_of net phases) flow potential
+    → (far : ℕ → ℤ) × (hops : ℕ → ℕ)
+    × AreLabelsFromSource (network_of net phases) flow far hops
+    × All (LeadsNoFurther far hops) (ways_of (network_of net phases) flow)
 
 -- Without a pin nothing waits: the least epochs are 0 at the gates, and the sink's is 1.
 abbrev pub NothingIsLeastWithoutPins : Type 0

@@ -10,3 +10,4 @@ pub mod Given
 pub mod UnderWay
 pub mod Search
 pub mod Sending
+pub mod Passes

@@ -1,11 +1,9 @@
--- How far rounds have come: what was sent in so many rounds, and what a network's progress keeps between two of them.
+-- How far rounds have come: who sends in a round, what was sent in so many of them, and the potentials before the first.
 use Rattle.std.specs.Prelude.{◌≡◌, ◌<◌, ◌≤◌, ◌+◌, ◌-◌, ℕ, ℤ, zero, suc, pos, nat_lt, cond, min, All}
 use Rattle.flow_net.specs.declared.net.Net.{Net}
 use Rattle.flow_net.specs.declared.net.Flow.{Flow}
 use Rattle.flow_net.specs.declared.net.Units.{Units}
 use Rattle.flow_net.specs.Flows.{out_minus_in}
-use Rattle.stage_flow.specs.declared.progress.Progress.{Progress}
-use Rattle.stage_flow.specs.Given.{AreIncidences}
 use Rattle.stage_flow.specs.LawsOfSending.{IsPartFlow}
 
 -- the units that a vertex sends in the first rounds: the source one in each, as many as there are used inputs, and then one gate
@@ -27,11 +25,6 @@ pub record HasSent (net : Net) (rounds : ℕ) (flow : Flow) : Type 0 where
   pub part : IsPartFlow net flow
   pub sent : (vertex : ℕ) → vertex < net.gates + 2 → out_minus_in net flow vertex ≡ pos (sent_in net rounds vertex)
   pub few : All (CarriesFew rounds) flow.pins
-
--- progress in a network: as many units were sent as it says, and the arcs that it keeps by vertices are the network's
-pub record IsUnderWay (net : Net) (progress : Progress) : Type 0 where
-  pub units : HasSent net progress.sent progress.flow
-  pub arcs : AreIncidences net progress.incidence
 
 -- the first potential of a vertex: its number, and the sink's of each mirror
 abbrev pub first_potential : Net → ℕ → ℤ

@@ -1,6 +1,6 @@
 //! The laws on epochs against full flows.
 
-ghost use Rattle.stage_flow.specs.LawsOfEpochs.{PotentialsRise, SourceIsLowest, FittingPotentialsAreOptimal, LongestLengthsAreLeastEpochs, LongestLengthsAreFew, LabelsAreFarthest, LabelsAreFew, EveryVertexIsReached, NothingIsLeastWithoutPins, LeastEpochsAreUnique};
+ghost use Rattle.stage_flow.specs.LawsOfEpochs.{PotentialsRise, SourceIsLowest, FittingPotentialsAreOptimal, LongestLengthsAreLeastEpochs, LongestLengthsAreFew, LabelsAreFarthest, LabelsAreFew, EveryVertexIsReached, SourceLabelsExist, NothingIsLeastWithoutPins, LeastEpochsAreUnique};
 
 /// Where each gate has a use and there is a pin, potentials that fit a flow rise from the source to every gate and to the
 /// sink, by as much as `epochs_by` tells: so epochs, which are natural numbers, can be counted off them.
@@ -43,6 +43,12 @@ pub fn labels_are_few()
 /// Where each gate has a use and there is a pin, a search from the source over residual arcs, of any flow, meets every vertex.
 pub fn every_vertex_is_reached()
     ensures { EveryVertexIsReached }
+{}
+
+/// Under the same conditions, where potentials fit the flow, there are labels from the source by which no residual arc leads
+/// further, nor as far by fewer arcs.
+pub fn source_labels_exist()
+    ensures { SourceLabelsExist }
 {}
 
 /// Without a pin the least epochs are 0 at the gates, and 1 at the sink.

@@ -13,12 +13,12 @@
 //! the rounds, with the ties of receiver and path (`specs/Rounds.antt`, from `flow_after`), and the least optimal epochs
 //! (`specs/LeastEpochs.antt`). `proofs/Examples.antt` evaluates the rounds on a small network.
 //! Laws: the best of walks is attained and no walk is better; of labels that fit, the receiver and the path of a round are read
-//! off tight arcs (`specs/LawsOfWalks.antt`). What every flow of the rounds keeps, that nobody is cut off from the mirrors that
-//! want, and that the rounds make a full flow (`specs/LawsOfSending.antt`). Potentials that fit a full flow give epochs with the
-//! fewest DROs, as many as the flow is worth; the lengths of longest walks from the source are the least of these; and there are
-//! no two least ones (`specs/LawsOfEpochs.antt`).
-//! Not proved: that what the searches find, and the rows of arcs, always pass the tests that each answer has passed. Where one
-//! failed, `NoMemory` would be told although memory was there. Not promised: time.
+//! off tight arcs (`specs/LawsOfWalks.antt`). What every flow of the rounds keeps, and that nobody is cut off from the mirrors that
+//! want (`specs/LawsOfSending.antt`). There are labels in each round, so the rounds make a full flow, and some epochs have the
+//! fewest DROs, as many as that flow is worth (`specs/LawsOfRounds.antt`). Potentials that fit a full flow give such epochs; the
+//! lengths of longest walks from the source are the least of these; and there are no two least ones (`specs/LawsOfEpochs.antt`).
+//! What a search finds is tested, and where it failed its test plain passes over all arcs would find it (`src/passes.rt`). Not
+//! promised: time.
 //!
 //! Source: successive shortest paths (Jewell 1958; Busacker and Gowen 1960), with lengths maximised, and complementary slackness
 //! of linear programs. The labels towards the mirrors that want, which serve all senders, and the ties are our own.
@@ -33,6 +33,7 @@ mod laws_of_epochs;
 mod laws_of_rounds;
 mod laws_of_sending;
 mod laws_of_walks;
+mod passes;
 mod potentials;
 mod progress;
 mod search;
@@ -47,8 +48,12 @@ pub use laws_of_epochs::{
     every_vertex_is_reached, fitting_potentials_are_optimal, labels_are_farthest, labels_are_few,
     least_epochs_are_unique, longest_lengths_are_few, longest_lengths_are_least_epochs,
     nothing_is_least_without_pins, potentials_rise_from_source, source_is_lowest,
+    source_labels_exist,
 };
-pub use laws_of_rounds::{labelled_rounds_have_fewest_dros, labelled_rounds_make_a_full_flow};
+pub use laws_of_rounds::{
+    fewest_dros_exist, labelled_rounds_have_fewest_dros, labelled_rounds_make_a_full_flow,
+    labels_exist, labels_exist_in_rounds, least_epochs_exist, rounds_are_full, rounds_have_labels,
+};
 pub use laws_of_sending::{
     a_receiver_is_found, as_many_want_as_are_to_send, nobody_is_cut_off, rounds_make_a_full_flow,
     units_make_part_flows,

@@ -2,7 +2,7 @@
 
 ghost use Rattle.std.specs.Prelude.{◌≡◌, ◌+◌, ◌<◌, IfOk, OnOk, OnErr};
 ghost use Rattle.stage_flow.specs.Rounds.{flow_after, no_units as the_flow_of_nothing};
-ghost use Rattle.stage_flow.specs.Given.{IsNetwork, ArePotentials};
+ghost use Rattle.stage_flow.specs.Given.{IsNetwork, ArePotentials, AreIncidences};
 
 use crate::incidence::Incidence;
 use crate::potentials::{first_potentials, negated};
@@ -41,15 +41,13 @@ fn no_units(alloc: Global, net: &Net) -> Result<Flow, NoMemory>
 }
 
 impl Progress {
-    ghost use Rattle.stage_flow.specs.UnderWay.{IsUnderWay};
-
-    /// No round: no unit was sent. `NoMemory` also where the rows of arcs fail their test.
+    /// No round: no unit was sent.
     pub fn start(alloc: Global, net: &Net) -> Result<Progress, NoMemory>
         requires { IsNetwork net.now }
         ensures flow { IfOk result (λ progress. progress.flow ≡ flow_after net.now 0) }
         ensures potentials { IfOk result (λ progress. ArePotentials net.now progress.flow progress.potentials) }
         ensures sent { IfOk result (λ progress. progress.sent ≡ 0) }
-        ensures way { IfOk result (λ progress. IsUnderWay net.now progress) }
+        ensures arcs { IfOk result (λ progress. AreIncidences net.now progress.incidence) }
     {
         let flow = no_units(alloc, net)?;
         let potentials = first_potentials(alloc, net)?;
@@ -62,17 +60,19 @@ impl Progress {
         })
     }
 
-    /// One round more. After `NoMemory`, which is told also where labels fail their test, nothing changed.
+    /// One round more. Asked for: a network that `net_of` answers (`net`), its flow of so many rounds (`flow`), any potentials that
+    /// fit it (`potentials`), that a round is left (`more`), and the arcs at each vertex (`arcs`), which `start` makes and no round
+    /// changes. After `NoMemory` nothing changed.
     pub fn round(&mut self, alloc: Global, net: &Net) -> Result<(), NoMemory>
         requires net { IsNetwork net.now }
         requires flow { self.old.flow ≡ flow_after net.now self.old.sent }
         requires potentials { ArePotentials net.now self.old.flow self.old.potentials }
         requires more { self.old.sent < net.now.drivers }
-        requires way { IsUnderWay net.now self.old }
+        requires arcs { AreIncidences net.now self.old.incidence }
         ensures flow { OnOk result (self.new.flow ≡ flow_after net.now (self.old.sent + 1)) }
         ensures potentials { OnOk result (ArePotentials net.now self.new.flow self.new.potentials) }
         ensures sent { OnOk result (self.new.sent ≡ self.old.sent + 1) }
-        ensures way { OnOk result (IsUnderWay net.now self.new) }
+        ensures arcs { OnOk result (AreIncidences net.now self.new.incidence) }
         ensures err { OnErr result (self.new ≡ self.old) }
     {
         let labels = find_labels(alloc, net, &self.incidence, &self.flow, &self.potentials)?;

@@ -12,7 +12,7 @@ use std::alloc::Global;
 
 /// Which way walks are followed.
 #[derive(Clone, Copy, PartialEq, Eq, Debug)]
-pub(crate) enum Way {
+pub(crate) enum Direction {
     /// From heads to tails.
     Backwards,
     /// From tails to heads.
@@ -123,7 +123,7 @@ impl Keys {
     fn relax(
         &mut self,
         potentials: &[i64],
-        way: Way,
+        direction: Direction,
         vertex: usize,
         arc: Arc,
     ) -> Result<(), NoMemory> {
@@ -132,9 +132,9 @@ impl Keys {
         }
         let sum = self.sums[vertex];
         let arcs = self.arcs[vertex].wrapping_add(1);
-        let (near, other) = match way {
-            Way::Backwards => (arc.head, arc.tail),
-            Way::Forwards => (arc.tail, arc.head),
+        let (near, other) = match direction {
+            Direction::Backwards => (arc.head, arc.tail),
+            Direction::Forwards => (arc.tail, arc.head),
         };
         if near == vertex {
             let more = slack(potentials, arc.tail, arc.head, arc.length);
@@ -159,7 +159,7 @@ impl Keys {
         incidence: &Incidence,
         flow: &Flow,
         potentials: &[i64],
-        way: Way,
+        direction: Direction,
     ) -> Result<(), NoMemory> {
         // A vertex waits at the start, and once for each arc that may give it a key, forwards or back.
         let most = net
@@ -174,7 +174,7 @@ impl Keys {
             if self.settle(vertex as usize) && (vertex as usize) < incidence.len() {
                 for number in incidence.at(vertex) {
                     if let Some(arc) = arc_at(net, flow, *number) {
-                        self.relax(potentials, way, vertex as usize, arc)?;
+                        self.relax(potentials, direction, vertex as usize, arc)?;
                     }
                 }
             }
@@ -190,13 +190,13 @@ pub(crate) fn lengths_by(
     potentials: &[i64],
     start: i64,
     keys: &Keys,
-    way: Way,
+    direction: Direction,
 ) -> Result<Vec<i64>, NoMemory> {
     let mut far = Vec::with_capacity(alloc, potentials.len())?;
     for (own, sum) in potentials.iter().zip(keys.sums.as_slice()) {
-        let rise = match way {
-            Way::Backwards => start.wrapping_sub(*own),
-            Way::Forwards => own.wrapping_sub(start),
+        let rise = match direction {
+            Direction::Backwards => start.wrapping_sub(*own),
+            Direction::Forwards => own.wrapping_sub(start),
         };
         far.push(rise.wrapping_sub(i64::try_from(*sum).unwrap_or(i64::MAX)))?;
     }

@@ -6,8 +6,7 @@ ghost use Rattle.flow_net.specs.Flows.{IsFullFlow, flow_value};
 ghost use Rattle.stage_flow.specs.Residual.{vertex_count};
 ghost use Rattle.stage_flow.specs.Rounds.{rounds_of};
 ghost use Rattle.stage_flow.specs.LeastEpochs.{AreLeastEpochs};
-ghost use Rattle.stage_flow.specs.Given.{IsNetwork, ArePotentials};
-ghost use Rattle.stage_flow.specs.UnderWay.{IsUnderWay};
+ghost use Rattle.stage_flow.specs.Given.{IsNetwork, ArePotentials, AreIncidences};
 
 use crate::epochs::{epochs_from, epochs_without_pins};
 use crate::progress::Progress;
@@ -33,7 +32,7 @@ fn all_rounds(alloc: Global, net: &Net) -> Result<Progress, NoMemory>
     ensures flow { IfOk result (λ progress. progress.flow ≡ rounds_of net.now) }
     ensures full { IfOk result (λ progress. IsFullFlow net.now progress.flow) }
     ensures potentials { IfOk result (λ progress. ArePotentials net.now progress.flow progress.potentials) }
-    ensures way { IfOk result (λ progress. IsUnderWay net.now progress) }
+    ensures arcs { IfOk result (λ progress. AreIncidences net.now progress.incidence) }
 {
     let mut progress = Progress::start(alloc, net)?;
     while progress.sent < net.drivers {
@@ -47,7 +46,7 @@ fn least_epochs(alloc: Global, net: &Net, progress: &Progress) -> Result<Epochs,
     requires net { IsNetwork net.now }
     requires full { IsFullFlow net.now progress.now.flow }
     requires potentials { ArePotentials net.now progress.now.flow progress.now.potentials }
-    requires way { IsUnderWay net.now progress.now }
+    requires arcs { AreIncidences net.now progress.now.incidence }
     ensures epochs { IfOk result (λ epochs. AreLeastEpochs net.now epochs) }
     ensures value { IfOk result (λ epochs. flow_value net.now progress.now.flow ≡ pos (count_of net.now epochs)) }
     ensures low { IfOk result (λ epochs. (vertex : ℕ) → epoch_at epochs vertex < vertex_count net.now) }
@@ -65,8 +64,7 @@ fn least_epochs(alloc: Global, net: &Net, progress: &Progress) -> Result<Epochs,
     epochs_from(alloc, net, labels.far.as_slice())
 }
 
-/// The flow of the rounds, the least optimal epochs, and their DRO count. `NoMemory` where memory runs out, and where what a
-/// search found fails its test; that none does is not proved.
+/// The flow of the rounds, the least optimal epochs, and their DRO count.
 pub fn solve(alloc: Global, net: &Net) -> Result<Solved, NoMemory>
     requires { IsNetwork net.now }
     ensures flow { IfOk result (λ solved. solved.flow ≡ rounds_of net.now) }

@@ -1,14 +1,13 @@
 use Rattle.std.proofs.Common.{◌≡◌, ◌≤◌, ◌-◌}
 use Rattle.stage_flow.specs.Rounds.{flow_after}
-use Rattle.stage_flow.specs.Given.{ArePotentials}
-use Rattle.stage_flow.specs.UnderWay.{IsUnderWay}
+use Rattle.stage_flow.specs.Given.{ArePotentials, AreIncidences}
 use Rattle.stage_flow.proofs.solving.all_rounds.Given as goal
 
 abbrev pub invariant-loop-progress : goal.invariant-loop-progress
 invariant-loop-progress l = record {
   flow : l.progress.flow ≡ flow_after l.net l.progress.sent;
   potentials : ArePotentials l.net l.progress.flow l.progress.potentials;
-  way : IsUnderWay l.net l.progress;
+  arcs : AreIncidences l.net l.progress.incidence;
   few : l.progress.sent ≤ l.net.drivers;
 }
 

@@ -1,23 +1,27 @@
-use Rattle.std.proofs.Common.{◌≡◌, ◌-ℤ◌, ◌<◌, ◌+◌, ◌∙◌, ℤ, pos, length, get_or, map, Some, sym, ap, subst, arith}
+use Rattle.std.proofs.Common.{◌≡◌, ◌-ℤ◌, ◌<◌, ◌∙◌, ℤ, pos, length, get_or, map, Some, sym, ap, subst, arith}
 use Rattle.std.proofs.lemmas.Int.{ints}
 use Rattle.std.proofs.lemmas.List.{get_or_default}
 use Rattle.flow_net.specs.declared.net.Flow.{Flow}
 use Rattle.stage_flow.specs.Rounds.{after_round}
 use Rattle.stage_flow.specs.Given.{ArePotentials, at_vertex, count_at}
-use Rattle.stage_flow.specs.UnderWay.{sender_in, HasSent}
+use Rattle.stage_flow.specs.UnderWay.{sender_in}
 use Rattle.stage_flow.proofs.Labels.{labels-for}
 use Rattle.stage_flow.proofs.Round.{ways-low, sender-low, rounds_go_by_labels}
-use Rattle.stage_flow.proofs.ProgressNetworks.{gates-few, vertices-few, upward, ends-among}
-use Rattle.stage_flow.proofs.ProgressSender.{sender-is}
-use Rattle.stage_flow.proofs.ProgressUnits.{mirror-wants, round-sends}
+use Rattle.stage_flow.proofs.ProgressNetworks.{vertices-few, ends-among}
+use Rattle.stage_flow.proofs.RoundsSent.{flow-sent, flow-sender, flow-wanted}
 use Rattle.stage_flow.proofs.ProgressPotentials.{far-within, labels-negated}
 use Rattle.stage_flow.proofs.progress.Progress.round.Goals as goal
+
+pub find_labels-requires-clause-flow : goal.find_labels-requires-clause-flow
+find_labels-requires-clause-flow c =
+    let progress = c.args.self.now in
+    (flow-sent c.args.net.now c.requires.net progress.sent progress.flow c.requires.flow c.requires.more).part
 
 pub find_labels-requires-clause-wanted : goal.find_labels-requires-clause-wanted
 find_labels-requires-clause-wanted c =
     let net = c.args.net.now in
     let progress = c.args.self.now in
-    mirror-wants net progress.sent progress.flow (gates-few net c.requires.net) (upward net c.requires.net) c.requires.way.units c.requires.more
+    flow-wanted net c.requires.net progress.sent progress.flow c.requires.flow c.requires.more
 
 pub negated-requires : goal.negated-requires
 negated-requires c k d within =
@@ -33,13 +37,19 @@ pub send-requires-clause-sender : goal.send-requires-clause-sender
 send-requires-clause-sender c =
     let net = c.args.net.now in
     let progress = c.args.self.now in
-    sender-is net progress.sent progress.flow (gates-few net c.requires.net) c.requires.more c.requires.way.units
+    flow-sender net c.requires.net progress.sent progress.flow c.requires.flow c.requires.more
     ∙ ap (λ v. Some v) (sym c.sender-from.ensures)
+
+pub send-requires-clause-units : goal.send-requires-clause-units
+send-requires-clause-units c =
+    let progress = c.args.self.now in
+    record { each = (flow-sent c.args.net.now c.requires.net progress.sent progress.flow c.requires.flow c.requires.more).part.each }
 
 pub send-requires-clause-room : goal.send-requires-clause-room
 send-requires-clause-room c k d within =
     let net = c.args.net.now in
-    let few = c.requires.way.units.few k d within in
+    let progress = c.args.self.now in
+    let few = (flow-sent net c.requires.net progress.sent progress.flow c.requires.flow c.requires.more).few k d within in
     let all = vertices-few net c.requires.net in
     (omega (arith, few.0, all, c.requires.more), omega (arith, few.1, all, c.requires.more))
 
@@ -53,28 +63,12 @@ returns-clause-potentials c =
     let labels = c.in_ok-labels.labels in
     let are = c.in_ok-labels.ensures.labels in
     let from = sender_in net progress.sent in
-    let sends = sender-is net progress.sent progress.flow (gates-few net c.requires.net) c.requires.more c.requires.way.units in
-    let round = rounds_go_by_labels net progress.flow (at_vertex labels.far) (count_at labels.hops) from (ends-among net c.requires.net) (record { each = c.requires.way.units.part.each })
+    let part = (flow-sent net c.requires.net progress.sent progress.flow c.requires.flow c.requires.more).part in
+    let sends = flow-sender net c.requires.net progress.sent progress.flow c.requires.flow c.requires.more in
+    let round = rounds_go_by_labels net progress.flow (at_vertex labels.far) (count_at labels.hops) from (ends-among net c.requires.net) (record { each = part.each })
     (labels-for net progress.flow (at_vertex labels.far) (count_at labels.hops) are (ways-low net progress.flow (ends-among net c.requires.net)) from (sender-low net progress.flow from sends)) sends in
     let numbers : c.in_ok-potentials.potentials ≡ map (λ (z : ℤ). pos 0 -ℤ z) labels.far =
     c.in_ok-potentials.ensures ∙ ap (map (λ (z : ℤ). pos 0 -ℤ z)) c.as_slice.ensures in
     let fit = labels-negated net progress.flow labels.far (count_at labels.hops) from round.0 c.requires.net are c.in_ok-labels.ensures.each.0 round.1 in
     subst (λ (flow : Flow). ArePotentials net flow c.in_ok-potentials.potentials) (sym c.in_ok-send.ensures.ok)
     (subst (ArePotentials net (after_round net progress.flow)) (sym numbers) fit)
-
-pub returns-clause-way : goal.returns-clause-way
-returns-clause-way c =
-    let net = c.args.net.now in
-    let progress = c.args.self.now in
-    let labels = c.in_ok-labels.labels in
-    let are = c.in_ok-labels.ensures.labels in
-    let from = sender_in net progress.sent in
-    let few = gates-few net c.requires.net in
-    let sends = sender-is net progress.sent progress.flow few c.requires.more c.requires.way.units in
-    let round = rounds_go_by_labels net progress.flow (at_vertex labels.far) (count_at labels.hops) from (ends-among net c.requires.net) (record { each = c.requires.way.units.part.each })
-    (labels-for net progress.flow (at_vertex labels.far) (count_at labels.hops) are (ways-low net progress.flow (ends-among net c.requires.net)) from (sender-low net progress.flow from sends)) sends in
-    let next = round-sends net progress.sent progress.flow (at_vertex labels.far) (count_at labels.hops) round.0 few c.requires.more c.requires.way.units round.1 in
-    record {
-      units = subst (HasSent net (progress.sent + 1)) (sym c.in_ok-send.ensures.ok) next;
-      arcs = c.requires.way.arcs;
-    }

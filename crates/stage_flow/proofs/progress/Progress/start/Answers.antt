@@ -1,9 +1,7 @@
 use Rattle.std.proofs.Common.{sym, subst}
 use Rattle.flow_net.specs.declared.net.Flow.{Flow}
 use Rattle.stage_flow.specs.Given.{ArePotentials}
-use Rattle.stage_flow.specs.UnderWay.{HasSent}
 use Rattle.stage_flow.proofs.ProgressPotentials.{first-potentials}
-use Rattle.stage_flow.proofs.ProgressUnits.{first-sent}
 use Rattle.stage_flow.proofs.progress.Progress.start.Goals as goal
 
 pub returns-clause-potentials : goal.returns-clause-potentials
@@ -11,11 +9,3 @@ returns-clause-potentials c =
     let net = c.args.net.now in
     subst (λ (flow : Flow). ArePotentials net flow c.in_ok-potentials.potentials) (sym c.in_ok-flow.ensures)
     (first-potentials net c.in_ok-potentials.potentials c.requires c.in_ok-potentials.ensures.each c.in_ok-potentials.ensures.own)
-
-pub returns-clause-way : goal.returns-clause-way
-returns-clause-way c =
-    let net = c.args.net.now in
-    record {
-      units = subst (HasSent net 0) (sym c.in_ok-flow.ensures) (first-sent net);
-      arcs = c.in_ok-incidence.ensures;
-    }
