@@ -1,4 +1,5 @@
 pub mod CallerLemmas
+pub mod UnfoldedNetwork
 mod InsertedWires
 mod RelatedWires
 mod WiresMadeOnce
@@ -9,6 +10,11 @@ mod UnfoldedGateCount
 mod PulsesAreGateValues
 mod UnfoldsItsDros
 mod StagesAndDrosFollowDepths
+mod UnfoldedElements
+mod EachGateIsUsed
+mod UsesInTime
+mod UsesAreBalanced
+mod BalancedUnfolding
 mod Examples
 mod UnfoldExamples
 mod MajorityExamples

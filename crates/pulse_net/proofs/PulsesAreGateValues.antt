@@ -61,7 +61,7 @@ ends_there inputs bits a b so p n user (Zero ∷ outlets) h = (tt, ends_there in
 ends_there inputs bits a b so p n user (One ∷ outlets) h = (tt, ends_there inputs bits a b so p n user outlets h.1)
 ends_there inputs bits a b so p n user (Wire wire ∷ outlets) h = ((related-found false (Input 0) wire h.0.0 p h.0.1).there, ends_there inputs bits a b so p n user outlets h.1)
 
-is_gate_net : (net : PulseNet) → IsValid net → length net.elements < 2 ^ 31 → length net.outputs < 2 ^ 31 → IsGateNet (unfolded net).gates
+pub is_gate_net : (net : PulseNet) → IsValid net → length net.elements < 2 ^ 31 → length net.outputs < 2 ^ 31 → IsGateNet (unfolded net).gates
 is_gate_net net valid few many =
     let so = unfolding_of net in
     let t = traced net valid [] in

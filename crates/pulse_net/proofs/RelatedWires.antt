@@ -29,6 +29,15 @@ related-found {A} {B} {C} {R} b0 c0 wire a (more other x y z xs ys zs h p) e = b
     by true rest e = let same : x ≡ a = cc in subst (λ (a : A). R a y z) same h
     by false rest e = rest e
 
+-- and is made in each reading;
+pub related-made : {A B C : Type 0} {R : A → B → C → Type 0} {xs : Wires A} {ys : Wires B} {zs : Wires C} (c0 : C) (wire : ℕ) (a : A) → Related R xs ys zs → found xs wire ≡ Some a → found zs wire ≡ Some (carried c0 zs wire)
+related-made c0 wire a none e = cc
+related-made {A} {B} {C} {R} c0 wire a (more other x y z xs ys zs h p) e = by (wire == other) (λ e. related-made c0 wire a p e) e
+  where
+    by : (same : Bool) → (found xs wire ≡ Some a → found zs wire ≡ Some (carried c0 zs wire)) → (if same then Some x else found xs wire) ≡ Some a → (if same then Some z else found zs wire) ≡ Some (unwrap_or (if same then Some z else found zs wire) c0)
+    by true rest e = refl
+    by false rest e = rest e
+
 -- and one that isn't made in the one reading isn't in the others
 pub related-absent : {A B C : Type 0} {R : A → B → C → Type 0} {xs : Wires A} {ys : Wires B} {zs : Wires C} (wire : ℕ) → Related R xs ys zs → found xs wire ≡ None → (found ys wire ≡ None) × (found zs wire ≡ None)
 related-absent wire none e = (refl, refl)

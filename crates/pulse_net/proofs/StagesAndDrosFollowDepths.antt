@@ -29,26 +29,26 @@ use Rattle.pulse_net.proofs.WiresMadeOnce.{new_wire, behind_wire, behind_element
 use Rattle.pulse_net.proofs.UnbrokenIsWired.{wired}
 
 -- a driver is an input or a gate that has its stage so far
-abbrev HasStage : List ℕ → Driver → Type 0
+abbrev pub HasStage : List ℕ → Driver → Type 0
 HasStage stages (Input i) = ⊤
 HasStage stages (Gate k) = k < length stages
 
 -- with n phases a wire stands at its driver's stage or behind it, by n ticks a DRO at most, and its driver has these DROs
-record IsBehind (n : ℕ) (gates : List ℕ) (dros : List Driver) (stage depth : ℕ) (driver : Driver) : Type 0 where
-  there : HasStage gates driver
-  after : entry_of gates driver ≤ stage
-  within : stage ≤ entry_of gates driver + n * depth
-  counted : depth ≤ dros_behind dros driver
+pub record IsBehind (n : ℕ) (gates : List ℕ) (dros : List Driver) (stage depth : ℕ) (driver : Driver) : Type 0 where
+  pub there : HasStage gates driver
+  pub after : entry_of gates driver ≤ stage
+  pub within : stage ≤ entry_of gates driver + n * depth
+  pub counted : depth ≤ dros_behind dros driver
 
 -- stages, depths and drivers of the same wires, in one order, where the gates so far have these stages, and the DROs these
 -- drivers
-abbrev Follow : ℕ → List ℕ → List Driver → Wires ℕ → Wires ℕ → Wires Driver → Type 0
+abbrev pub Follow : ℕ → List ℕ → List Driver → Wires ℕ → Wires ℕ → Wires Driver → Type 0
 Follow n gates dros = Related (IsBehind n gates dros)
 
 -- what is known of the wires as far as a netlist is unfolded
-record Followed (n : ℕ) (stages depths : Wires ℕ) (so : Unfolding) : Type 0 where
-  wires : Follow n so.stages so.dros stages depths so.wires
-  each_stage : length so.stages ≡ length so.gates
+pub record Followed (n : ℕ) (stages depths : Wires ℕ) (so : Unfolding) : Type 0 where
+  pub wires : Follow n so.stages so.dros stages depths so.wires
+  pub each_stage : length so.stages ≡ length so.gates
 
 -- one DRO more is one more behind its driver, and behind no other one less
 counted-more : (dros : List Driver) (last driver : Driver) → dros_behind dros driver ≤ dros_behind (dros ++ last ∷ []) driver
@@ -109,7 +109,7 @@ module _ (n : ℕ) where
       }
 
   -- a new wire with its driver
-  make_followed : (a b : Wires ℕ) (so : Unfolding) → Followed n a b so → (wire stage depth : ℕ) (driver : Driver) → found a wire ≡ None → IsBehind n so.stages so.dros stage depth driver → Followed n (a ++ (wire, stage) ∷ []) (b ++ (wire, depth) ∷ []) (make_driven wire driver so)
+  pub make_followed : (a b : Wires ℕ) (so : Unfolding) → Followed n a b so → (wire stage depth : ℕ) (driver : Driver) → found a wire ≡ None → IsBehind n so.stages so.dros stage depth driver → Followed n (a ++ (wire, stage) ∷ []) (b ++ (wire, depth) ∷ []) (make_driven wire driver so)
   make_followed a b so t wire stage depth driver new h =
       record { wires = related-make wire stage depth driver t.wires new h; each_stage = t.each_stage }
 
@@ -148,7 +148,7 @@ module _ (n : ℕ) where
       let grouped = subst (λ (x : Wires ℕ). Followed n x ((b ++ (left, v) ∷ []) ++ (right, v) ∷ []) so') (append_assoc a ((left, s) ∷ []) ((right, s) ∷ [])) two in
       subst (λ (y : Wires ℕ). Followed n (a ++ (left, s) ∷ ((right, s) ∷ [])) y so') (append_assoc b ((left, v) ∷ []) ((right, v) ∷ [])) grouped
 
-  element_followed : (a b : Wires ℕ) (so : Unfolding) → Followed n a b so → (element : Element) → ElementInTime n a element → HasItsPins element → (rest : List ℕ) → IsDistinct nat_eq (keys_of a ++ (element_makes element ++ rest)) → Followed n (a ++ element_wires 0 cell_stage a element) (b ++ element_wires 0 cell_depth b element) (unfold_element element so)
+  pub element_followed : (a b : Wires ℕ) (so : Unfolding) → Followed n a b so → (element : Element) → ElementInTime n a element → HasItsPins element → (rest : List ℕ) → IsDistinct nat_eq (keys_of a ++ (element_makes element ++ rest)) → Followed n (a ++ element_wires 0 cell_stage a element) (b ++ element_wires 0 cell_depth b element) (unfold_element element so)
   element_followed a b so t (Clocked Dro stage pins out) h pinned rest distinct = dro_followed a b so t stage out pins pinned h (new_wire a out rest distinct)
   element_followed a b so t (Clocked cell stage pins out) h pinned rest distinct = gate_followed a b so t cell stage out _ (new_wire a out rest distinct)
   element_followed a b so t (Split from left right) h pinned rest distinct = split_followed a b so t from left right h rest distinct
@@ -176,14 +176,21 @@ module _ (n : ℕ) where
       let grouped = subst (λ (x : Wires ℕ). Followed n x ((b ++ (wire, 0) ∷ []) ++ input_entries input_depth (place + 1) used) so') (append_assoc a ((wire, 0) ∷ []) (input_entries input_stage (place + 1) used)) all in
       subst (λ (y : Wires ℕ). Followed n (a ++ (wire, 0) ∷ input_entries input_stage (place + 1) used) y so') (append_assoc b ((wire, 0) ∷ []) (input_entries input_depth (place + 1) used)) grouped
 
--- a valid netlist, unfolded
-followed : (net : PulseNet) → IsValid net → Followed net.phases (stages_of net) (depths_of net) (unfolding_of net)
-followed net valid =
-    let w = wired net valid.unbroken in
+-- a valid netlist: its inputs unfolded, where no element makes a wire again,
+pub followed-inputs : (net : PulseNet) → IsValid net → Followed net.phases (input_entries input_stage 0 net.inputs) (input_entries input_depth 0 net.inputs) (unfold_inputs 0 net.inputs nothing_unfolded)
+followed-inputs net valid =
     let nothing : Followed net.phases [] [] nothing_unfolded = record { wires = none; each_stage = refl } in
-    let start = inputs_followed net.phases [] [] nothing_unfolded nothing net.inputs 0 (flat_map element_makes net.elements) w.made_once in
-    let distinct = subst (λ (k : List ℕ). IsDistinct nat_eq (k ++ flat_map element_makes net.elements)) (sym (keys-inputs net.inputs 0)) w.made_once in
-    elements_followed net.phases _ _ _ start net.elements w.elements (recursion_from_All HasItsPins net.elements valid.formed.pins) distinct
+    inputs_followed net.phases [] [] nothing_unfolded nothing net.inputs 0 (flat_map element_makes net.elements) (wired net valid.unbroken).made_once
+
+pub made_once-inputs : (net : PulseNet) → IsValid net → IsDistinct nat_eq (keys_of (input_entries input_stage 0 net.inputs) ++ flat_map element_makes net.elements)
+made_once-inputs net valid =
+    subst (λ (k : List ℕ). IsDistinct nat_eq (k ++ flat_map element_makes net.elements)) (sym (keys-inputs net.inputs 0)) (wired net valid.unbroken).made_once
+
+-- and then all of it
+pub followed : (net : PulseNet) → IsValid net → Followed net.phases (stages_of net) (depths_of net) (unfolding_of net)
+followed net valid =
+    elements_followed net.phases _ _ _ (followed-inputs net valid) net.elements (wired net valid.unbroken).elements
+    (recursion_from_All HasItsPins net.elements valid.formed.pins) (made_once-inputs net valid)
 
 pub stages_follow_depths : StagesFollowDepths
 stages_follow_depths net wire stage valid made =

@@ -1,5 +1,5 @@
 -- Small netlists by hand, unfolded by evaluation.
-use Rattle.std.specs.Prelude.{◌≡◌, ℕ, List, [], ◌∷◌, map, Some, refl}
+use Rattle.std.specs.Prelude.{◌≡◌, ℕ, List, [], ◌∷◌, map, Some, IsOk, refl}
 use Rattle.cell_lib.specs.declared.cell.Cell.{Cell}
 use Rattle.cell_lib.specs.declared.cell.Cell.TheVariants.{Dro, Not, And}
 use Rattle.gate_net.specs.declared.row.Driver.{Driver}
@@ -13,9 +13,12 @@ use Rattle.pulse_net.specs.declared.net.Outlet.{Outlet}
 use Rattle.pulse_net.specs.declared.net.Outlet.TheVariants.{Zero, Wire}
 use Rattle.pulse_net.specs.declared.net.PulseNet.{PulseNet}
 use Rattle.pulse_net.specs.declared.unfolding.Unfolded.{Unfolded}
+use Rattle.flow_net.specs.Epochs.{dro_count}
+use Rattle.pulse_net.specs.Validity.{wiring_of}
 use Rattle.pulse_net.specs.Unfolding.{unfolding_of, unfolded, gate_wires}
 use Rattle.pulse_net.specs.Dros.{dros}
 use Rattle.pulse_net.specs.Depths.{depths_of, dros_behind}
+use Rattle.pulse_net.specs.Balance.{unfolded_network}
 
 -- a model `m` with inputs `a` and `b` on wires 0 and 1, and an output `f`
 abbrev netlist : ℕ → ℕ → List Element → Outlet → PulseNet
@@ -76,3 +79,17 @@ by_way_of_dro-unfolds = refl
 -- both sides of a splitter have its driver
 split-unfolds : unfolded (netlist 1 2 (Split 1 2 3 ∷ (Clocked And 1 (2 ∷ (3 ∷ [])) 4 ∷ [])) Zero) ≡ gates_of (gate And (Input 1 ∷ (Input 1 ∷ [])) ∷ []) ends.Zero (0 ∷ []) (1 ∷ []) 2 0
 split-unfolds = refl
+
+-- a pulses into a gate by two DROs side by side, where a shared one would do, and b by two in a row: four DROs for epochs that
+-- cost three
+abbrev side_by_side : PulseNet
+side_by_side = netlist 1 4 (Split 0 2 3 ∷ (Clocked Dro 1 (2 ∷ []) 4 ∷ (Clocked Dro 1 (3 ∷ []) 5 ∷ (Clocked And 2 (4 ∷ (5 ∷ [])) 6 ∷ (Clocked Dro 1 (1 ∷ []) 7 ∷ (Clocked Dro 2 (7 ∷ []) 8 ∷ (Clocked And 3 (6 ∷ (8 ∷ [])) 9 ∷ []))))))) (Wire 9)
+
+side_by_side-unbroken : IsOk (wiring_of side_by_side)
+side_by_side-unbroken = refl
+
+side_by_side-dros : (unfolded side_by_side).dros ≡ 4
+side_by_side-dros = refl
+
+side_by_side-count : dro_count (unfolded_network (unfolded side_by_side)) (unfolded side_by_side).epochs ≡ 3
+side_by_side-count = refl

@@ -10,3 +10,4 @@ pub mod Unfolding
 pub mod Dros
 pub mod Depths
 pub mod GatePulses
+pub mod Balance

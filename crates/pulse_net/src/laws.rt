@@ -1,5 +1,6 @@
 //! What the rules and the pulses mean, as laws on every netlist. A law takes nothing and does nothing: its clause is the law.
 
+ghost use Rattle.pulse_net.specs.Balance.{DrosAreAtLeastTheCount, NoNetlistHasFewerDros, UnfoldedEpochsAreBalanced, UnfoldedGatesArePhased, UnfoldedGatesAreUsed, UnusedNetlistsHaveLatencyOne};
 ghost use Rattle.pulse_net.specs.Depths.{DrosFollowDepths, StagesFollowDepths};
 ghost use Rattle.pulse_net.specs.Dros.{UnfoldsItsDros};
 ghost use Rattle.pulse_net.specs.GatePulses.{UnfoldedPulses};
@@ -48,4 +49,36 @@ pub fn stages_follow_depths()
 /// In a valid netlist a wire that passed k DROs behind its driver has a driver with k DROs at least.
 pub fn dros_follow_depths()
     ensures { DrosFollowDepths }
+{}
+
+/// In a valid netlist each unfolded gate drives a pin of a gate, or an output. It is the clause `used` of `unfold`, without a
+/// call, as the next four laws are the clauses `phased`, `balanced`, `at_least` and `unused`.
+pub fn unfolded_gates_are_used()
+    ensures { UnfoldedGatesAreUsed }
+{}
+
+/// In a valid netlist with n phases each unfolded gate has one phase, below n.
+pub fn unfolded_gates_are_phased()
+    ensures { UnfoldedGatesArePhased }
+{}
+
+/// In a valid netlist the unfolded epochs rise by a pin's weight or more from its driver to its user.
+pub fn unfolded_epochs_are_balanced()
+    ensures { UnfoldedEpochsAreBalanced }
+{}
+
+/// In a valid netlist there are at least as many DROs as its unfolded epochs cost, where all pins of a driver share one chain.
+pub fn dros_are_at_least_the_count()
+    ensures { DrosAreAtLeastTheCount }
+{}
+
+/// In a valid netlist where no driver is used, neither by a gate nor by an output, the latency is 1.
+pub fn unused_netlists_have_latency_one()
+    ensures { UnusedNetlistsHaveLatencyOne }
+{}
+
+/// Where epochs need the fewest DROs among balanced ones, no valid netlist that unfolds to these gates and phases has fewer
+/// DROs among its elements.
+pub fn no_netlist_has_fewer_dros()
+    ensures { NoNetlistHasFewerDros }
 {}

@@ -1,9 +1,12 @@
 //! The gates that a netlist unfolds to.
 
-ghost use Rattle.std.specs.Prelude.{◌≡◌, ◌<◌, ◌^◌, ◌≤◌, ◌+◌, length, map, OnOk, IfOk};
-ghost use Rattle.flow_net.specs.Levels.{phases_of};
+ghost use Rattle.std.specs.Prelude.{◌≡◌, ◌<◌, ◌^◌, ◌≤◌, ◌+◌, [], length, map, OnOk, IfOk};
+ghost use Rattle.flow_net.specs.Epochs.{IsBalanced, dro_count};
+ghost use Rattle.flow_net.specs.Levels.{ArePhases, phases_of};
 ghost use Rattle.flow_net.specs.TheConstants.{MAX_PHASES};
-ghost use Rattle.gate_net.specs.Net.{IsGateNet};
+ghost use Rattle.flow_net.specs.Uses.{uses_of};
+ghost use Rattle.gate_net.specs.Net.{EachGateIsUsed, IsGateNet};
+ghost use Rattle.pulse_net.specs.Balance.{unfolded_network};
 ghost use Rattle.pulse_net.specs.Validity.{IsValid};
 ghost use Rattle.pulse_net.specs.GatePulses.{PulsesAreGateValues};
 ghost use Rattle.pulse_net.specs.Unfolding.{unfolded, unfolded_from, unfolding_of, unfold_inputs, unfold_elements, epochs_of, end_of};
@@ -29,8 +32,9 @@ pub struct Unfolded {
     pub dros: u64,
 }
 
-/// The gates of a netlist, with their phases and epochs, and the number of its DROs. The netlist is valid, with fewer than
-/// 2^31 inputs, elements and outputs, so that a `u32` numbers the drivers. `NoMemory` is the only error.
+/// The gates of a netlist, with their phases and epochs, and the number of its DROs. Each gate has a use, the epochs are
+/// balanced, and there are at least as many DROs as they cost. The netlist is valid, with fewer than 2^31 inputs, elements
+/// and outputs, so that a `u32` numbers the drivers. `NoMemory` is the only error.
 pub fn unfold(alloc: Global, net: &PulseNet) -> Result<Unfolded, NoMemory>
     requires valid { IsValid net.now }
     requires few_inputs { length net.now.inputs < 2 ^ 31 }
@@ -39,6 +43,11 @@ pub fn unfold(alloc: Global, net: &PulseNet) -> Result<Unfolded, NoMemory>
     ensures value { IfOk result (λ u. u ≡ unfolded net.now) }
     ensures net { IfOk result (λ u. IsGateNet u.gates) }
     ensures pulses { IfOk result (λ u. PulsesAreGateValues net.now u) }
+    ensures used { IfOk result (λ u. EachGateIsUsed u.gates) }
+    ensures phased { IfOk result (λ u. ArePhases net.now.phases u.gates u.phases) }
+    ensures balanced { IfOk result (λ u. IsBalanced (unfolded_network u) u.epochs) }
+    ensures at_least { IfOk result (λ u. dro_count (unfolded_network u) u.epochs ≤ u.dros) }
+    ensures unused { IfOk result (λ u. uses_of u.gates ≡ [] → u.epochs.sink ≡ 1) }
 {
     let trace = trace_of(alloc, net)?;
     unfolded_from(alloc, net, trace)
