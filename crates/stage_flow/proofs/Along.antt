@@ -114,10 +114,10 @@ kept-along P net flow way pins holds arc there of reverse =
         (λ takes. subst P (sym takes.0) (lost on.arc on.there takes.1)) on.is
 
 -- a residual arc of some flow in the network
-abbrev IsOnArc : Net → Way → Type 0
+abbrev pub IsOnArc : Net → Way → Type 0
 IsOnArc net way = (arc : Arc) × Contains (arcs_of net) arc × ((way ≡ adding arc) ⊎ (way ≡ taking arc))
 
-on_arc : (net : Net) (flow : Flow) (way : Way) → Contains (ways_of net flow) way → IsOnArc net way
+pub on_arc : (net : Net) (flow : Flow) (way : Way) → Contains (ways_of net flow) way → IsOnArc net way
 on_arc net flow way inside =
     let on = way-on net flow way inside in
     (on.arc, on.there, ⊎_elim {C = (way ≡ adding on.arc) ⊎ (way ≡ taking on.arc)} (λ adds. inl adds) (λ takes. inr takes.0) on.is)
@@ -130,7 +130,7 @@ kept-sent_on P net flow (way ∷ path) pins holds on reverses =
     (kept-along P net flow way pins holds arc there of (All-head (λ one. (a : Arc) → one ≡ adding a → P (taking a)) way path reverses arc))
     (All-tail (IsOnArc net) way path on) (All-tail (λ one. (a : Arc) → one ≡ adding a → P (taking a)) way path reverses)
 
-walk-inside : (ways : List Way) (from to : ℕ) (walk : List Way) → IsWalk ways from to walk → All (Contains ways) walk
+pub walk-inside : (ways : List Way) (from to : ℕ) (walk : List Way) → IsWalk ways from to walk → All (Contains ways) walk
 walk-inside ways from to [] here = All-nil (Contains ways)
 walk-inside ways from to (way ∷ walk) (there, begins, goes) = All-cons (Contains ways) way walk there (walk-inside ways way.head to walk goes)
 

@@ -13,9 +13,10 @@ use Rattle.stage_flow.specs.Rounds.{rounds_of}
 use Rattle.stage_flow.specs.LeastEpochs.{AreLeastEpochs}
 use Rattle.stage_flow.specs.LawsOfEpochs.{epochs_by}
 use Rattle.stage_flow.specs.LawsOfRounds.{LeastEpochsExist}
+use Rattle.stage_flow.specs.RoundEpochs.{epochs_of_nothing}
 use Rattle.stage_flow.proofs.LeastLengths.{potential_of, optimal-fits, labels-least}
 use Rattle.stage_flow.proofs.SourceLabelsExist.{source_labels-exist}
-use Rattle.stage_flow.proofs.SolvingEpochs.{epochs_of_nothing, found-nothing}
+use Rattle.stage_flow.proofs.SolvingEpochs.{found-nothing}
 use Rattle.stage_flow.proofs.RoundLabels.{rounds-are_full, fewest-exist}
 
 cons-some : (one : Use) (uses : List Use) → one ∷ uses ≡ [] → ⊥

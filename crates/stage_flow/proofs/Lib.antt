@@ -42,9 +42,13 @@ pub mod LabelsExist
 pub mod SourceLabelsExist
 pub mod RoundLabels
 mod LeastEpochsExist
+mod SinkEpochs
+mod RoundEpochs
 mod SourceTarget
 mod SendingArcs
 mod SendingSearch
+mod StaleVertices
+mod RoundLeft
 mod SendingPath
 mod SendingUnits
 mod SendingExamples
@@ -61,4 +65,13 @@ mod SearchTests
 mod PassSteps
 mod PassPins
 mod PassRounds
-mod PassLabels
+mod AgreedLabels
+mod Costs
+mod OldLabels
+mod FirstOffers
+mod QueuedOffers
+mod AddedOffers
+mod OpenArcs
+mod FirstLabels
+mod Halfway
+mod HalfwaySteps

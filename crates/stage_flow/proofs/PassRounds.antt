@@ -8,13 +8,12 @@ use Rattle.flow_net.specs.declared.net.Pin.{Pin}
 use Rattle.flow_net.specs.declared.net.Net.{Net}
 use Rattle.flow_net.specs.declared.net.Flow.{Flow}
 use Rattle.flow_net.specs.Arcs.{mirror_of}
-use Rattle.stage_flow.specs.declared.settling.Direction.{Direction}
 use Rattle.stage_flow.specs.Residual.{Way, ways_of, vertex_count}
 use Rattle.stage_flow.specs.Longest.{Reach, is_better}
 use Rattle.stage_flow.specs.LawsOfWalks.{label}
 use Rattle.stage_flow.specs.Given.{IsNetwork, at_vertex, count_at}
 use Rattle.stage_flow.specs.Search.{way_by, no_pin, none_on, HoldsBelow, HoldsOfOne}
-use Rattle.stage_flow.specs.Passes.{known, other, mark_at, least, standing, IsHeld, OffersNoBetter, IsTarget, AreUnder, Nears, Brings, HaveCome}
+use Rattle.stage_flow.specs.Passes.{mark_at, least, standing, IsHeld, OffersNoBetter, IsTarget, AreUnder, Nears, Brings, HaveCome}
 use Rattle.stage_flow.proofs.SearchTests.{somewhere-any, holds-of_all}
 use Rattle.stage_flow.proofs.Walks.{test-no_better, reach-same}
 use Rattle.stage_flow.proofs.ProgressNetworks.{vertices-few, ways-short}
@@ -43,7 +42,7 @@ all-holds Q net flow long all place low = record {
         (subst (λ l. Q way.tail way.head l) span_is
         (All-contains (λ (w : Way). Q w.tail w.head w.length) (ways_of net flow) way all (k, within, is))))
 
-module _ (d : Direction) (net : Net) (flow : Flow) (starts : ℕ → Bool) (far : ℕ → ℤ) (hops : ℕ → ℕ) (is : IsNetwork net) (long : length flow.pins ≡ length net.pins) (target : IsTarget d net flow starts far hops) where
+module _ (net : Net) (flow : Flow) (starts : ℕ → Bool) (far : ℕ → ℤ) (hops : ℕ → ℕ) (is : IsNetwork net) (long : length flow.pins ≡ length net.pins) (target : IsTarget net flow starts far hops) where
   -- A target's label is no farther than its hops are many, since no arc is longer than 1; so numbers can hold it.
   near-at : (count vertex : ℕ) (test : Bool) → starts vertex ≡ test → vertex < vertex_count net → hops vertex ≡ count → ((before : ℕ) → before < vertex_count net → hops before + 1 ≡ count → IsWithin (hops before) (far before)) → IsWithin count (far vertex)
   near-at count vertex true start low many next = let none = target.nothing vertex low start in (omega (arith, ints, none.0), omega (arith, ints, none.0))
@@ -51,7 +50,7 @@ module _ (d : Direction) (net : Net) (flow : Flow) (starts : ℕ → Bool) (far 
       let (k, way, within, there, (ends, from, tight)) = target.comes vertex low start in
       let span = ap (λ (r : Reach). r.length) tight in
       let fewer = ap (λ (r : Reach). r.hops) tight in
-      let rest = next (known d way.tail way.head) from (omega (arith, fewer, many)) in
+      let rest = next way.tail from (omega (arith, fewer, many)) in
       let short = All-contains (λ (w : Way). (w.length ≤ℤ pos 1) × (negsuc 0 ≤ℤ w.length)) (ways_of net flow) way (ways-short net flow is) (k, within, there) in
       (omega (arith, ints, rest.0, rest.1, short.0, short.1, span, fewer, many), omega (arith, ints, rest.0, rest.1, short.0, short.1, span, fewer, many))
 
@@ -72,7 +71,7 @@ module _ (d : Direction) (net : Net) (flow : Flow) (starts : ℕ → Bool) (far 
 
   -- One pass.
   pub come-on : (passes : ℕ) (now after : List ℤ) (counts afters : List ℕ) → length now ≡ vertex_count net → length after ≡ length now
-      → (HoldsBelow (OffersNoBetter d far hops) net flow (length net.pins) → AreUnder far hops now counts → Nears far hops now counts after afters × HoldsBelow (Brings d far hops now counts after afters) net flow (length net.pins))
+      → (HoldsBelow (OffersNoBetter far hops) net flow (length net.pins) → AreUnder far hops now counts → Nears far hops now counts after afters × HoldsBelow (Brings far hops now counts after afters) net flow (length net.pins))
       → HaveCome far hops passes now counts → HaveCome far hops (passes + 1) after afters
   come-on passes now after counts afters many sized pass come = record {
     under = done.0.under;
@@ -83,11 +82,11 @@ module _ (d : Direction) (net : Net) (flow : Flow) (starts : ℕ → Bool) (far 
         (cases_lt (hops vertex) (passes + 1));
   }
     where
-      done : Nears far hops now counts after afters × HoldsBelow (Brings d far hops now counts after afters) net flow (length net.pins)
-      done = pass (all-holds (λ tail head span. OffersNoBetter d far hops (way_by tail head span)) net flow long target.fits) come.under
+      done : Nears far hops now counts after afters × HoldsBelow (Brings far hops now counts after afters) net flow (length net.pins)
+      done = pass (all-holds (λ tail head span. OffersNoBetter far hops (way_by tail head span)) net flow long target.fits) come.under
 
-      brings : All (λ way. Brings d far hops now counts after afters way) (ways_of net flow)
-      brings = holds-of_all (λ tail head span. Brings d far hops now counts after afters (way_by tail head span)) net flow long done.1
+      brings : All (λ way. Brings far hops now counts after afters way) (ways_of net flow)
+      brings = holds-of_all (λ tail head span. Brings far hops now counts after afters (way_by tail head span)) net flow long done.1
 
       by : (vertex : ℕ) → vertex < length after → hops vertex ≤ passes + 1 → (test : Bool) → starts vertex ≡ test → passes + 1 ≤ hops vertex → standing after afters vertex ≡ label far hops vertex
       by vertex low few true start more =
@@ -95,12 +94,12 @@ module _ (d : Direction) (net : Net) (flow : Flow) (starts : ℕ → Bool) (far 
           absurd (omega (arith, nothing.1, more))
       by vertex low few false start more =
           let (k, way, within, is, (there, from, tight)) = target.comes vertex (omega (arith, low, sized, many)) start in
-          let own = All-contains (λ (w : Way). Brings d far hops now counts after afters w) (ways_of net flow) way brings (k, within, is) in
+          let own = All-contains (λ (w : Way). Brings far hops now counts after afters w) (ways_of net flow) way brings (k, within, is) in
           let fewer = ap (λ (r : Reach). r.hops) tight in
-          let same = come.stand (known d way.tail way.head) (omega (arith, from, many)) (omega (arith, fewer, few)) in
+          let same = come.stand way.tail (omega (arith, from, many)) (omega (arith, fewer, few)) in
           subst (λ v. standing after afters v ≡ label far hops v) there
           (own (subst (λ v. v < length after) (sym there) low) (omega (arith, from, many, sized))
-          (held (other d way.tail way.head) (subst (λ v. v < vertex_count net) (sym there) (omega (arith, low, sized, many))))
+          (held way.head (subst (λ v. v < vertex_count net) (sym there) (omega (arith, low, sized, many))))
           (tight ∙ ap (label far hops) (sym there)) same)
 
   -- Before the first.
@@ -147,8 +146,8 @@ pub enough : (far : ℕ → ℤ) (hops : ℕ → ℕ) (passes fewer : ℕ) (now 
 enough far hops passes fewer now counts less come = record { under = come.under; stand = λ vertex low few. come.stand vertex low (omega (arith, few, less)) }
 
 -- All labels stand after as many passes as there are vertices.
-pub come-last : (d : Direction) (net : Net) (flow : Flow) (starts : ℕ → Bool) (far : ℕ → ℤ) (hops : ℕ → ℕ) (now : List ℤ) (counts : List ℕ) → IsTarget d net flow starts far hops → length now ≡ vertex_count net → HaveCome far hops (vertex_count net) now counts
+pub come-last : (net : Net) (flow : Flow) (starts : ℕ → Bool) (far : ℕ → ℤ) (hops : ℕ → ℕ) (now : List ℤ) (counts : List ℕ) → IsTarget net flow starts far hops → length now ≡ vertex_count net → HaveCome far hops (vertex_count net) now counts
     → (vertex : ℕ) → vertex < vertex_count net → (at_vertex now vertex ≡ far vertex) × (count_at counts vertex ≡ hops vertex)
-come-last d net flow starts far hops now counts target many come vertex low =
+come-last net flow starts far hops now counts target many come vertex low =
     let same = come.stand vertex (omega (arith, low, many)) (omega (arith, target.few vertex low)) in
     (ap (λ (r : Reach). r.length) same, ap (λ (r : Reach). r.hops) same)

@@ -19,6 +19,7 @@ use Rattle.stage_flow.specs.LawsOfWalks.{AreLabelsFor, FitsWay, potential_by}
 use Rattle.stage_flow.specs.LawsOfSending.{IsPartFlow, SomeMirrorWants}
 use Rattle.stage_flow.specs.LawsOfRounds.{LabelsExistInRounds, RoundsHaveLabels, RoundsAreFull, FewestDrosExist}
 use Rattle.stage_flow.specs.LawsOfEpochs.{epochs_by}
+use Rattle.stage_flow.specs.RoundEpochs.{epochs_of_nothing}
 use Rattle.stage_flow.specs.UnderWay.{first_potential}
 use Rattle.stage_flow.proofs.Linked.{IsUpward, IsLinked, networks-linked}
 use Rattle.stage_flow.proofs.NetworkEnds.{network-ends, network-light}
@@ -33,7 +34,7 @@ use Rattle.stage_flow.proofs.Round.{ways-low, rounds_go_by_labels}
 use Rattle.stage_flow.proofs.ReceiverFound.{some-of, receiver-found, receiver-wants}
 use Rattle.stage_flow.proofs.LabelledRounds.{round-moves, labelled_rounds-full, labelled_rounds-fewest}
 use Rattle.stage_flow.proofs.LabelsExist.{receiver_far, receiver_hops, receiver-labels}
-use Rattle.stage_flow.proofs.SolvingEpochs.{epochs_of_nothing, found-nothing}
+use Rattle.stage_flow.proofs.SolvingEpochs.{found-nothing}
 
 -- While a vertex has to send, a mirror wants.
 pub sender-wanted : (net : Net) (flow : Flow) (from : ℕ) → IsLinked net → IsPartFlow net flow → sender net flow ≡ Some from → SomeMirrorWants net flow

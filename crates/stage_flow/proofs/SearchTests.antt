@@ -1,5 +1,5 @@
 -- Tests of labels: what they say of residual arcs.
-use Rattle.std.proofs.Common.{◌≡◌, ◌<◌, ◌≤◌, ◌+◌, ◌-◌, ◌*◌, ◌∙◌, ◌==◌, ◌&&◌, ◌⊎◌, inl, inr, ℕ, zero, suc, ℤ, pos, ◌+ℤ◌, ◌-ℤ◌, ◌≤ℤ◌, Bool, true, false, cond, not, nat_le, List, [], ◌∷◌, length, get_or, All, Any, Contains, refl, sym, ap, subst, arith, ⊎_elim}
+use Rattle.std.proofs.Common.{◌≡◌, ◌<◌, ◌≤◌, ◌+◌, ◌-◌, ◌*◌, ◌∙◌, ◌==◌, ◌&&◌, ◌⊎◌, inl, inr, ℕ, zero, suc, ℤ, pos, ◌-ℤ◌, Bool, true, false, cond, not, nat_le, List, [], ◌∷◌, length, get_or, All, Any, Contains, refl, sym, ap, subst, arith, ⊎_elim}
 use Rattle.std.specs.List.{flat_map, sum_by}
 use Rattle.std.proofs.lemmas.Bool.{cases_lt, eqb-true}
 use Rattle.std.proofs.lemmas.Bool.Decides.{nat_tests}
@@ -14,28 +14,12 @@ use Rattle.flow_net.specs.Arcs.{Arc, forward_arc, back_arc, arcs_from, arcs_of, 
 use Rattle.flow_net.specs.Flows.{units_on, pin_units, units_out, units_in}
 use Rattle.stage_flow.specs.Residual.{Way, adding, taking, ways_of, vertex_count}
 use Rattle.stage_flow.specs.Rounds.{is_wanting}
-use Rattle.stage_flow.specs.Given.{at_vertex, count_at, IsNetwork}
-use Rattle.stage_flow.specs.LawsOfSending.{IsPartFlow}
+use Rattle.stage_flow.specs.Given.{at_vertex, count_at}
 use Rattle.stage_flow.specs.LawsOfEpochs.{Fits, IsLastArc, AreLabelsFromSource}
-use Rattle.stage_flow.specs.LawsOfWalks.{led_by, label, IsFitting, IsTight, AreLabels}
-use Rattle.stage_flow.specs.Search.{way_by, no_pin, none_on, HoldsAtPin, HoldsBelow, HoldsOfOne, HoldsSomewhere, IsTightFrom, IsLastInto, SayWhoReceived, is_wanting_by}
-use Rattle.stage_flow.proofs.Walks.{test-no_better, reach-same}
-use Rattle.stage_flow.proofs.Linked.{IsUpward, pins-upward}
+use Rattle.stage_flow.specs.Search.{way_by, no_pin, none_on, HoldsAtPin, HoldsBelow, HoldsOfOne, HoldsSomewhere, IsLastInto, SayWhoReceived, is_wanting_by}
+use Rattle.stage_flow.proofs.Linked.{IsUpward}
 use Rattle.stage_flow.proofs.Wants.{wanting-mirror, mirror-wanting}
 use Rattle.stage_flow.proofs.Along.{IsWayOn, way-on, adding-in, taking-in}
-
-pub fitting-by : (far : List ℤ) (hops : List ℕ) (tail head : ℕ) (length : ℤ) → (length +ℤ at_vertex far head) ≤ℤ at_vertex far tail
-    → (length +ℤ at_vertex far head ≡ at_vertex far tail → count_at hops tail ≤ count_at hops head + 1) → IsFitting (at_vertex far) (count_at hops) (way_by tail head length)
-fitting-by far hops tail head length low few =
-    let way = way_by tail head length in
-    test-no_better (led_by way (label (at_vertex far) (count_at hops) head)) (label (at_vertex far) (count_at hops) tail)
-    (record { no_longer = low; no_fewer = few })
-
-pub tight-by : (far : List ℤ) (hops : List ℕ) (tail head : ℕ) (length : ℤ) → length +ℤ at_vertex far head ≡ at_vertex far tail → count_at hops head + 1 ≡ count_at hops tail
-    → IsTight (at_vertex far) (count_at hops) (way_by tail head length)
-tight-by far hops tail head length long many =
-    let way = way_by tail head length in
-    reach-same (led_by way (label (at_vertex far) (count_at hops) head)) (label (at_vertex far) (count_at hops) tail) long many
 
 -- ---- From pins to residual arcs
 -- What holds of a pin's residual arcs, by equal lengths.
@@ -306,31 +290,6 @@ module _ (net : Net) (flow : Flow) (marks : List Bool) (pins : All (IsUpward net
           let found = wanting-mirror net flow (mirror_of net driver) wants in
           omega (arith, found.3, marked-in driver e, none-out (mirror_of net driver) (omega arith)))
       by driver few false e = sym (mirror-wanting net flow driver few (omega (arith, unmarked-in driver few e)))
-
--- ---- Labels
-pub labels-tested : (net : Net) (flow : Flow) (far : List ℤ) (hops : List ℕ) (received marks : List Bool) → IsNetwork net → IsPartFlow net flow
-    → HoldsBelow (IsFitting (at_vertex far) (count_at hops)) net flow (length net.pins)
-    → SayWhoReceived net flow (length net.pins) received
-    → ((vertex : ℕ) → get_or marks vertex false ≡ true → HoldsSomewhere (IsTightFrom (at_vertex far) (count_at hops) vertex) net flow (length net.pins))
-    → ((vertex : ℕ) → vertex < vertex_count net → is_wanting_by net.gates received vertex ≡ true → (at_vertex far vertex ≡ pos 0) × (count_at hops vertex ≡ 0))
-    → ((vertex : ℕ) → vertex < vertex_count net → is_wanting_by net.gates received vertex ≡ false → get_or marks vertex false ≡ true)
-    → AreLabels net flow (at_vertex far) (count_at hops)
-labels-tested net flow far hops received marks network part each says tight nothing onward =
-    let pins : All (IsUpward net) net.pins = subst (λ (one : Net). All (IsUpward one) one.pins) (sym network.is) (pins-upward network.gates network.phases network.formed.formed) in
-    let wants = wanting-by net flow received pins part.each says in
-    record {
-      fits = holds-of_all (λ tail head length. IsFitting (at_vertex far) (count_at hops) (way_by tail head length)) net flow part.each each;
-      nothing = λ vertex wanting.
-          let low = wanting-low net flow vertex wanting in
-          let is = nothing vertex low (wants vertex low ∙ wanting) in
-          reach-same (label (at_vertex far) (count_at hops) vertex) (record { length = pos 0; hops = 0 }) is.0 is.1;
-      onward = λ vertex low none.
-          somewhere-any (λ tail head length. (tail ≡ vertex) × IsTight (at_vertex far) (count_at hops) (way_by tail head length)) net flow part.each
-          (tight vertex (onward vertex low (wants vertex low ∙ none)));
-    }
-  where
-    wanting-low : (net : Net) (flow : Flow) (vertex : ℕ) → is_wanting net flow vertex ≡ true → vertex < vertex_count net
-    wanting-low net flow vertex wanting = let found = wanting-mirror net flow vertex wanting in let low = found.1 in let is = found.2 in omega (arith, low, is)
 
 -- ---- Lengths from the source
 pub lengths-tested : (net : Net) (flow : Flow) (far : List ℤ) (hops : List ℕ) (marks : List Bool) → length flow.pins ≡ length net.pins → length far ≡ vertex_count net

@@ -26,6 +26,14 @@ arcs_from-at net place (pin ∷ pins) (suc (suc k)) d p within =
     ∙ ap (λ n. arc_by (n == 0) net (get_or pins (k / 2) p) (2 * place + suc (suc k))) (sym even)
     ∙ ap (λ n. arc_by (suc (suc k) % 2 == 0) net (get_or (pin ∷ pins) n p) (2 * place + suc (suc k))) (sym half)
 
+-- An arc has its number.
+pub arc_at-number : (net : Net) (number : ℕ) → (arc_at net number).number ≡ number
+arc_at-number net number = by (number % 2 == 0)
+  where
+    by : (even : Bool) → (arc_by even net (pin_at net (number / 2)) number).number ≡ number
+    by true = refl
+    by false = refl
+
 -- Each number whose half is a place of a pin is an arc's,
 pub arc_at-there : (net : Net) (number : ℕ) → number / 2 < length net.pins → Contains (arcs_of net) (arc_at net number)
 arc_at-there net number within =
@@ -38,11 +46,7 @@ arc_at-there net number within =
 
 -- and an arc is the one with its number.
 pub arc_at-is : (net : Net) (arc : Arc) → Contains (arcs_of net) arc → arc_at net arc.number ≡ arc
-arc_at-is net arc there = arc-same net (arc_at net arc.number) arc (arc_at-there net arc.number (arc-low net arc there)) there (number (arc.number % 2 == 0))
-  where
-    number : (even : Bool) → (arc_by even net (pin_at net (arc.number / 2)) arc.number).number ≡ arc.number
-    number true = refl
-    number false = refl
+arc_at-is net arc there = arc-same net (arc_at net arc.number) arc (arc_at-there net arc.number (arc-low net arc there)) there (arc_at-number net arc.number)
 
 -- The mirror of a pin's driver is a vertex.
 pub back-low : (net : Net) (number : ℕ) → EndsAreVertices net → number / 2 < length net.pins → (number % 2 ≡ 0 → ⊥) → mirror_of net (pin_at net (number / 2)).driver < vertex_count net

@@ -16,6 +16,7 @@ use Rattle.flow_net.specs.Epochs.{epoch_at, chain_lengths, dro_count}
 use Rattle.stage_flow.specs.Residual.{vertex_count}
 use Rattle.stage_flow.specs.LeastEpochs.{AreLeastEpochs}
 use Rattle.stage_flow.specs.Given.{IsNetwork}
+use Rattle.stage_flow.specs.RoundEpochs.{epochs_of_nothing}
 use Rattle.stage_flow.specs.LawsOfEpochs.{AreLabelsFromSource, rise_to, epochs_by}
 use Rattle.stage_flow.proofs.Supply.{epoch_at-epochs_by, supplied-rise}
 use Rattle.stage_flow.proofs.SourceLabels.{labels-are_farthest}
@@ -38,7 +39,7 @@ rises-push rise items more gate own before is pushed =
     ∙ sym (map-range_with_len_more (λ k. rise (suc k)) 0 gate gate last)
 
 -- Behind the gates each vertex has the sink's epoch.
-sink-at : (epochs : Epochs) (vertex : ℕ) → length epochs.gates < vertex → epoch_at epochs vertex ≡ epochs.sink
+pub sink-at : (epochs : Epochs) (vertex : ℕ) → length epochs.gates < vertex → epoch_at epochs vertex ≡ epochs.sink
 sink-at epochs zero past = absurd (omega arith)
 sink-at epochs (suc k) past = get_or_past epochs.gates k epochs.sink (omega arith)
 
@@ -77,9 +78,6 @@ rises-few net flow far hops is some full labels vertex within =
     omega (arith, found.low vertex, epoch_at-epochs_by net far vertex within, vertices-few net is)
 
 -- ---- Without pins
-abbrev pub epochs_of_nothing : Net → Epochs
-epochs_of_nothing net = record { gates = replicate net.gates 0; sink = 1 }
-
 zero-or_one : (n k : ℕ) → get_or (replicate {A = ℕ} n 0) k 1 ≤ 1
 zero-or_one zero k = omega arith
 zero-or_one (suc n) zero = omega arith

@@ -8,7 +8,6 @@ use Rattle.flow_net.specs.declared.net.Net.{Net}
 use Rattle.flow_net.specs.declared.net.Flow.{Flow}
 use Rattle.flow_net.specs.Uses.{uses_of}
 use Rattle.flow_net.specs.Network.{pin_of}
-use Rattle.stage_flow.specs.declared.settling.Direction.TheVariants.{Forwards}
 use Rattle.stage_flow.specs.Residual.{Way, ways_of, vertex_count}
 use Rattle.stage_flow.specs.Longest.{Reach}
 use Rattle.stage_flow.specs.Given.{IsNetwork}
@@ -61,7 +60,7 @@ pub record AreTargets (net : Net) (flow : Flow) (starts : ℕ → Bool) : Type 0
   pub far : ℕ → ℤ
   pub hops : ℕ → ℕ
   pub labels : AreLabelsFromSource net flow far hops
-  pub target : IsTarget Forwards net flow starts far hops
+  pub target : IsTarget net flow starts far hops
 
 module _ (net : Net) (flow : Flow) (far : ℕ → ℤ) (hops : ℕ → ℕ) (starts : ℕ → Bool)
     (begins : starts 0 ≡ true) (others : (vertex : ℕ) → suc vertex < vertex_count net → starts (suc vertex) ≡ false)
@@ -70,14 +69,14 @@ module _ (net : Net) (flow : Flow) (far : ℕ → ℤ) (hops : ℕ → ℕ) (sta
   nothing-begins zero within start = (labels.origin, labels.starts)
   nothing-begins (suc vertex) within start = absurd (both_ways (starts (suc vertex)) (others vertex within) start)
 
-  comes-by : (vertex : ℕ) → vertex < vertex_count net → starts vertex ≡ false → Any (ComesBy Forwards far hops (vertex_count net) vertex) (ways_of net flow)
+  comes-by : (vertex : ℕ) → vertex < vertex_count net → starts vertex ≡ false → Any (ComesBy far hops (vertex_count net) vertex) (ways_of net flow)
   comes-by zero within start = absurd (both_ways (starts 0) start begins)
   comes-by (suc vertex) within start =
       let (k, way, inside, here, (own, tail)) = labels.comes vertex within in
       let on : Reach = record { length = far way.tail +ℤ way.length; hops = suc (hops way.tail) } in
       (k, way, inside, here, (own.ends, tail, reach-same on (label far hops (suc vertex)) (sym own.reaches) (omega (arith, own.counts))))
 
-  pub target-of_labels : IsTarget Forwards net flow starts far hops
+  pub target-of_labels : IsTarget net flow starts far hops
   target-of_labels = record {
     nothing = nothing-begins;
     fits = fits;

@@ -6,8 +6,13 @@ pub mod LawsOfEpochs
 pub mod LawsOfSending
 pub mod LawsOfWalks
 pub mod LawsOfRounds
+pub mod RoundEpochs
 pub mod Given
 pub mod UnderWay
 pub mod Search
 pub mod Sending
 pub mod Passes
+pub mod Beginning
+pub mod Mending
+pub mod Staleness
+pub mod Waiting

@@ -1,5 +1,6 @@
 //! The laws on all rounds: with labels for each of them, and that there are labels.
 
+ghost use Rattle.stage_flow.specs.RoundEpochs.{RoundsGiveLeastEpochs};
 ghost use Rattle.stage_flow.specs.LawsOfRounds.{LabelledRoundsMakeAFullFlow, LabelledRoundsHaveFewestDros, LabelsExist, LabelsExistInRounds, RoundsHaveLabels, RoundsAreFull, FewestDrosExist, LeastEpochsExist};
 
 /// The rounds, as many as there are drivers, make a full flow, where there are labels for the sender of each; and the potentials
@@ -41,4 +42,9 @@ pub fn fewest_dros_exist()
 /// So there are least optimal epochs.
 pub fn least_epochs_exist()
     ensures { LeastEpochsExist }
+{}
+
+/// The epochs that the flow of the rounds gives, by the lengths of longest walks from the source, are the least optimal ones.
+pub fn rounds_give_least_epochs()
+    ensures { RoundsGiveLeastEpochs }
 {}

@@ -17,15 +17,15 @@
 //! want (`specs/LawsOfSending.antt`). There are labels in each round, so the rounds make a full flow, and some epochs have the
 //! fewest DROs, as many as that flow is worth (`specs/LawsOfRounds.antt`). Potentials that fit a full flow give such epochs; the
 //! lengths of longest walks from the source are the least of these; and there are no two least ones (`specs/LawsOfEpochs.antt`).
-//! What a search finds is tested, and where it failed its test plain passes over all arcs would find it (`src/passes.rt`). Not
-//! promised: time.
+//! Lengths that a search from the source finds are tested, and where they failed their test plain passes over all arcs would find
+//! them (`src/passes.rt`). Not promised: time.
 //!
 //! Source: successive shortest paths (Jewell 1958; Busacker and Gowen 1960), with lengths maximised, and complementary slackness
 //! of linear programs. The labels towards the mirrors that want, which serve all senders, and the ties are our own.
 #![tactic(auto)]
 
+mod beginning;
 mod epochs;
-mod fitting;
 mod frontier;
 mod incidence;
 mod last_arcs;
@@ -33,6 +33,10 @@ mod laws_of_epochs;
 mod laws_of_rounds;
 mod laws_of_sending;
 mod laws_of_walks;
+mod mender;
+mod mending;
+mod mirrors;
+mod offers;
 mod passes;
 mod potentials;
 mod progress;
@@ -41,6 +45,7 @@ mod senders;
 mod sending;
 mod settling;
 mod solving;
+mod stale;
 mod tight;
 mod ways;
 
@@ -52,7 +57,8 @@ pub use laws_of_epochs::{
 };
 pub use laws_of_rounds::{
     fewest_dros_exist, labelled_rounds_have_fewest_dros, labelled_rounds_make_a_full_flow,
-    labels_exist, labels_exist_in_rounds, least_epochs_exist, rounds_are_full, rounds_have_labels,
+    labels_exist, labels_exist_in_rounds, least_epochs_exist, rounds_are_full,
+    rounds_give_least_epochs, rounds_have_labels,
 };
 pub use laws_of_sending::{
     a_receiver_is_found, as_many_want_as_are_to_send, nobody_is_cut_off, rounds_make_a_full_flow,

@@ -9,6 +9,7 @@ use crate::potentials::{first_potentials, negated};
 use crate::search::find_labels;
 use crate::senders::sender;
 use crate::sending::send;
+use crate::tight::PathRoom;
 use flow_net::{Flow, Net, Units};
 use net_base::{List, NoMemory};
 use std::alloc::Global;
@@ -26,8 +27,8 @@ pub struct Progress {
     pub(crate) incidence: Incidence,
 }
 
-// The flow of no round.
-fn no_units(alloc: Global, net: &Net) -> Result<Flow, NoMemory>
+/// The flow of no round.
+pub(crate) fn no_units(alloc: Global, net: &Net) -> Result<Flow, NoMemory>
     ensures { IfOk result (λ flow. flow ≡ the_flow_of_nothing net.now) }
 {
     let none = Units {
@@ -78,7 +79,16 @@ impl Progress {
         let labels = find_labels(alloc, net, &self.incidence, &self.flow, &self.potentials)?;
         let potentials = negated(alloc, labels.far.as_slice())?;
         let from = sender(net, self.sent);
-        send(alloc, net, &self.incidence, &labels, from, &mut self.flow)?;
+        let mut room = PathRoom::new(alloc);
+        send(
+            alloc,
+            net,
+            &self.incidence,
+            &labels,
+            from,
+            &mut self.flow,
+            &mut room,
+        )?;
         self.potentials = potentials;
         self.sent += 1;
         Ok(())

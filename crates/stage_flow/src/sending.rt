@@ -3,7 +3,7 @@
 ghost use Rattle.std.specs.Prelude.{◌≡◌, ◌<◌, ◌-◌, ◌^◌, Some, length, map, All, OnOk, OnErr};
 ghost use Rattle.flow_net.specs.declared.net.Units.{Units as TheUnits};
 ghost use Rattle.stage_flow.specs.Residual.{vertex_count};
-ghost use Rattle.stage_flow.specs.Rounds.{sender, after_round};
+ghost use Rattle.stage_flow.specs.Rounds.{sender, path_of, after_round};
 ghost use Rattle.stage_flow.specs.Given.{IsNetwork, AreIncidences, at_vertex, count_at};
 ghost use Rattle.stage_flow.specs.Rounds as rounds;
 ghost use Rattle.stage_flow.specs.LawsOfWalks.{AreLabels, HasUnits};
@@ -11,7 +11,7 @@ ghost use Rattle.stage_flow.specs.Sending.{way_of, side, HasRoom};
 
 use crate::incidence::Incidence;
 use crate::search::Labels;
-use crate::tight::find_path;
+use crate::tight::{PathRoom, find_path};
 use crate::ways::Step;
 use flow_net::{Flow, Net, Units};
 use net_base::{List, NoMemory};
@@ -60,7 +60,8 @@ fn send_along(units: &mut [Units], path: &[Step])
     }
 }
 
-/// Sends one unit from the sender, along the path that the labels show. After `NoMemory` the flow is unchanged.
+/// Sends one unit from the sender, along the path that the labels show, which is left in the room. After `NoMemory` the flow is
+/// unchanged.
 pub(crate) fn send(
     alloc: Global,
     net: &Net,
@@ -68,6 +69,7 @@ pub(crate) fn send(
     labels: &Labels,
     from: u32,
     flow: &mut Flow,
+    room: &mut PathRoom,
 ) -> Result<(), NoMemory>
     requires net { IsNetwork net.now }
     requires incidence { AreIncidences net.now incidence.now }
@@ -77,13 +79,14 @@ pub(crate) fn send(
     requires sender { sender net.now flow.old ≡ Some from }
     requires room { All (λ (units : TheUnits). (units.forward < 2 ^ 32 - 1) × (units.back < 2 ^ 32 - 1)) flow.old.pins }
     ensures ok { OnOk result (flow.new ≡ after_round net.now flow.old) }
+    ensures path { OnOk result (map way_of room.new.path.items ≡ path_of net.now flow.old (Some from)) }
     ensures err { OnErr result (flow.new ≡ flow.old) }
 {
-    let path = find_path(alloc, net, incidence, flow, labels, from)?;
+    find_path(net, incidence, flow, labels, from, room)?;
     // All memory is taken, so from here on nothing fails.
     let pins = replace(&mut flow.pins, List::new(alloc));
     let mut units = pins.into_vec();
-    send_along(units.as_mut_slice(), path.as_slice());
+    send_along(units.as_mut_slice(), room.path.as_slice());
     flow.pins = List::from_vec(units);
     Ok(())
 }

@@ -1,23 +1,14 @@
 //! The search itself: vertices are settled in the order of their keys, each once.
 //!
-//! The key of a vertex is the least sum of slacks of a walk, and of such walks the least number of arcs; the slack of a
-//! residual arc is how much more the potential rises on it than it is long. Backwards a walk leads to one of the vertices that
-//! the search begins with, and forwards it comes from one. Nothing is promised of the keys: who asks for labels tests them.
+//! The key of a vertex is the least sum of slacks of a walk to it from where the search begins, and of such walks the least number
+//! of arcs; the slack of a residual arc is how much more the potential rises on it than it is long. Nothing is promised of the
+//! keys: who asks for lengths tests them.
 
 use crate::frontier::Frontier;
 use crate::incidence::{Incidence, mirror};
 use flow_net::{Flow, Net};
 use net_base::NoMemory;
 use std::alloc::Global;
-
-/// Which way walks are followed.
-#[derive(Clone, Copy, PartialEq, Eq, Debug)]
-pub(crate) enum Direction {
-    /// From heads to tails.
-    Backwards,
-    /// From tails to heads.
-    Forwards,
-}
 
 // An arc with its ends, its length and its units.
 #[derive(Clone, Copy)]
@@ -120,34 +111,24 @@ impl Keys {
     }
 
     // Offers keys over an arc at a vertex that is settled.
-    fn relax(
-        &mut self,
-        potentials: &[i64],
-        direction: Direction,
-        vertex: usize,
-        arc: Arc,
-    ) -> Result<(), NoMemory> {
+    fn relax(&mut self, potentials: &[i64], vertex: usize, arc: Arc) -> Result<(), NoMemory> {
         if vertex >= self.sums.len() || vertex >= self.arcs.len() {
             return Ok(());
         }
         let sum = self.sums[vertex];
         let arcs = self.arcs[vertex].wrapping_add(1);
-        let (near, other) = match direction {
-            Direction::Backwards => (arc.head, arc.tail),
-            Direction::Forwards => (arc.tail, arc.head),
-        };
-        if near == vertex {
+        if arc.tail == vertex {
             let more = slack(potentials, arc.tail, arc.head, arc.length);
-            self.offer(other, sum.wrapping_add(more), arcs)?;
+            self.offer(arc.head, sum.wrapping_add(more), arcs)?;
         }
-        if other == vertex && arc.units != 0 {
+        if arc.head == vertex && arc.units != 0 {
             let more = slack(
                 potentials,
                 arc.head,
                 arc.tail,
                 0i64.wrapping_sub(arc.length),
             );
-            self.offer(near, sum.wrapping_add(more), arcs)?;
+            self.offer(arc.tail, sum.wrapping_add(more), arcs)?;
         }
         Ok(())
     }
@@ -159,7 +140,6 @@ impl Keys {
         incidence: &Incidence,
         flow: &Flow,
         potentials: &[i64],
-        direction: Direction,
     ) -> Result<(), NoMemory> {
         // A vertex waits at the start, and once for each arc that may give it a key, forwards or back.
         let most = net
@@ -174,7 +154,7 @@ impl Keys {
             if self.settle(vertex as usize) && (vertex as usize) < incidence.len() {
                 for number in incidence.at(vertex) {
                     if let Some(arc) = arc_at(net, flow, *number) {
-                        self.relax(potentials, direction, vertex as usize, arc)?;
+                        self.relax(potentials, vertex as usize, arc)?;
                     }
                 }
             }
@@ -190,14 +170,10 @@ pub(crate) fn lengths_by(
     potentials: &[i64],
     start: i64,
     keys: &Keys,
-    direction: Direction,
 ) -> Result<Vec<i64>, NoMemory> {
     let mut far = Vec::with_capacity(alloc, potentials.len())?;
     for (own, sum) in potentials.iter().zip(keys.sums.as_slice()) {
-        let rise = match direction {
-            Direction::Backwards => start.wrapping_sub(*own),
-            Direction::Forwards => own.wrapping_sub(start),
-        };
+        let rise = own.wrapping_sub(start);
         far.push(rise.wrapping_sub(i64::try_from(*sum).unwrap_or(i64::MAX)))?;
     }
     Ok(far)

@@ -1,18 +1,27 @@
 //! All rounds, and the least epochs.
 
-ghost use Rattle.std.specs.Prelude.{◌≡◌, ◌≤◌, ◌<◌, ℕ, pos, IfOk};
+ghost use Rattle.std.specs.Prelude.{◌≡◌, ◌≤◌, ◌<◌, ◌+◌, ℕ, pos, length, IfOk, OnOk};
 ghost use Rattle.flow_net.specs.Epochs.{epoch_at, dro_count as count_of};
 ghost use Rattle.flow_net.specs.Flows.{IsFullFlow, flow_value};
 ghost use Rattle.stage_flow.specs.Residual.{vertex_count};
-ghost use Rattle.stage_flow.specs.Rounds.{rounds_of};
+ghost use Rattle.stage_flow.specs.Rounds.{flow_after, rounds_of};
+ghost use Rattle.stage_flow.specs.LawsOfWalks.{AreLabels};
 ghost use Rattle.stage_flow.specs.LeastEpochs.{AreLeastEpochs};
-ghost use Rattle.stage_flow.specs.Given.{IsNetwork, ArePotentials, AreIncidences};
+ghost use Rattle.stage_flow.specs.RoundEpochs.{least_epochs as the_least_epochs};
+ghost use Rattle.stage_flow.specs.Staleness.{NoneIsMarked};
+ghost use Rattle.stage_flow.specs.Given.{IsNetwork, ArePotentials, AreIncidences, at_vertex, count_at};
 
 use crate::epochs::{epochs_from, epochs_without_pins};
-use crate::progress::Progress;
-use crate::search::find_lengths;
+use crate::incidence::Incidence;
+use crate::mender::Mender;
+use crate::potentials::{first_potentials, negated};
+use crate::progress::no_units;
+use crate::search::{Labels, find_labels, find_lengths};
+use crate::senders::sender;
+use crate::sending::send;
+use crate::tight::PathRoom;
 use flow_net::{Epochs, Flow, Net, dro_count};
-use net_base::NoMemory;
+use net_base::{List, NoMemory};
 use std::alloc::Global;
 
 /// A flow, epochs, and how many DROs they need.
@@ -26,41 +35,93 @@ pub struct Solved {
     pub count: u64,
 }
 
-// All rounds, as many as there are drivers.
-fn all_rounds(alloc: Global, net: &Net) -> Result<Progress, NoMemory>
-    requires { IsNetwork net.now }
-    ensures flow { IfOk result (λ progress. progress.flow ≡ rounds_of net.now) }
-    ensures full { IfOk result (λ progress. IsFullFlow net.now progress.flow) }
-    ensures potentials { IfOk result (λ progress. ArePotentials net.now progress.flow progress.potentials) }
-    ensures arcs { IfOk result (λ progress. AreIncidences net.now progress.incidence) }
+// Makes all rounds, as many as there are drivers, and answers potentials that fit the flow they make. The labels are kept from
+// round to round, and mended where a round left them stale; those from before the last round serve as potentials.
+fn make_rounds(
+    alloc: Global,
+    net: &Net,
+    incidence: &Incidence,
+    flow: &mut Flow,
+    first: Labels,
+    room: &mut PathRoom,
+    mender: &mut Mender,
+) -> Result<List<i64>, NoMemory>
+    requires net { IsNetwork net.now }
+    requires incidence { AreIncidences net.now incidence.now }
+    requires some { 0 < net.now.drivers }
+    requires flow { flow.old ≡ flow_after net.now 0 }
+    requires labels { AreLabels net.now flow.old (at_vertex first.far) (count_at first.hops) }
+    requires each { (length first.far ≡ vertex_count net.now) × (length first.hops ≡ vertex_count net.now) }
+    requires none { NoneIsMarked net.now mender.old.marks.items }
+    ensures flow { OnOk result (flow.new ≡ rounds_of net.now) }
+    ensures potentials { IfOk result (λ potentials. ArePotentials net.now flow.new potentials) }
 {
-    let mut progress = Progress::start(alloc, net)?;
-    while progress.sent < net.drivers {
-        progress.round(alloc, net)?;
+    let mut labels = first;
+    let mut sent = 0;
+    while sent + 1 < net.drivers {
+        let from = sender(net, sent);
+        send(alloc, net, incidence, &labels, from, flow, room)?;
+        labels = mender.mend(net, incidence, flow, labels, room.path.as_slice(), from)?;
+        sent += 1;
     }
-    Ok(progress)
+    let from = sender(net, sent);
+    send(alloc, net, incidence, &labels, from, flow, room)?;
+    negated(alloc, labels.far.as_slice())
+}
+
+// A flow, and potentials that fit it.
+#[derive(Drop)]
+struct Rounds {
+    flow: Flow,
+    potentials: List<i64>,
+}
+
+// The flow of all rounds. Where there is no driver, there is none to make.
+fn all_rounds(alloc: Global, net: &Net, incidence: &Incidence) -> Result<Rounds, NoMemory>
+    requires net { IsNetwork net.now }
+    requires incidence { AreIncidences net.now incidence.now }
+    ensures flow { IfOk result (λ rounds. rounds.flow ≡ rounds_of net.now) }
+    ensures potentials { IfOk result (λ rounds. ArePotentials net.now rounds.flow rounds.potentials) }
+{
+    let mut flow = no_units(alloc, net)?;
+    let potentials = first_potentials(alloc, net)?;
+    if net.drivers == 0 {
+        return Ok(Rounds { flow, potentials });
+    }
+    let first = find_labels(alloc, net, incidence, &flow, &potentials)?;
+    let mut room = PathRoom::new(alloc);
+    let mut mender = Mender::new(alloc, net)?;
+    let potentials = make_rounds(
+        alloc,
+        net,
+        incidence,
+        &mut flow,
+        first,
+        &mut room,
+        &mut mender,
+    )?;
+    Ok(Rounds { flow, potentials })
 }
 
 // The least optimal epochs, after all rounds: by the lengths of longest walks from the source.
-fn least_epochs(alloc: Global, net: &Net, progress: &Progress) -> Result<Epochs, NoMemory>
+fn least_epochs(
+    alloc: Global,
+    net: &Net,
+    incidence: &Incidence,
+    rounds: &Rounds,
+) -> Result<Epochs, NoMemory>
     requires net { IsNetwork net.now }
-    requires full { IsFullFlow net.now progress.now.flow }
-    requires potentials { ArePotentials net.now progress.now.flow progress.now.potentials }
-    requires arcs { AreIncidences net.now progress.now.incidence }
+    requires full { IsFullFlow net.now rounds.now.flow }
+    requires potentials { ArePotentials net.now rounds.now.flow rounds.now.potentials }
+    requires arcs { AreIncidences net.now incidence.now }
     ensures epochs { IfOk result (λ epochs. AreLeastEpochs net.now epochs) }
-    ensures value { IfOk result (λ epochs. flow_value net.now progress.now.flow ≡ pos (count_of net.now epochs)) }
+    ensures value { IfOk result (λ epochs. flow_value net.now rounds.now.flow ≡ pos (count_of net.now epochs)) }
     ensures low { IfOk result (λ epochs. (vertex : ℕ) → epoch_at epochs vertex < vertex_count net.now) }
 {
     if net.pins.is_empty() {
         return epochs_without_pins(alloc, net);
     }
-    let labels = find_lengths(
-        alloc,
-        net,
-        &progress.incidence,
-        &progress.flow,
-        &progress.potentials,
-    )?;
+    let labels = find_lengths(alloc, net, incidence, &rounds.flow, &rounds.potentials)?;
     epochs_from(alloc, net, labels.far.as_slice())
 }
 
@@ -70,15 +131,17 @@ pub fn solve(alloc: Global, net: &Net) -> Result<Solved, NoMemory>
     ensures flow { IfOk result (λ solved. solved.flow ≡ rounds_of net.now) }
     ensures full { IfOk result (λ solved. IsFullFlow net.now solved.flow) }
     ensures epochs { IfOk result (λ solved. AreLeastEpochs net.now solved.epochs) }
+    ensures lengths { IfOk result (λ solved. solved.epochs ≡ the_least_epochs net.now) }
     ensures count { IfOk result (λ solved. solved.count ≡ count_of net.now solved.epochs) }
     ensures value { IfOk result (λ solved. flow_value net.now solved.flow ≡ pos solved.count) }
     ensures low { IfOk result (λ solved. (vertex : ℕ) → epoch_at solved.epochs vertex < vertex_count net.now) }
 {
-    let progress = all_rounds(alloc, net)?;
-    let epochs = least_epochs(alloc, net, &progress)?;
+    let incidence = Incidence::new(alloc, net)?;
+    let rounds = all_rounds(alloc, net, &incidence)?;
+    let epochs = least_epochs(alloc, net, &incidence, &rounds)?;
     let count = dro_count(alloc, net, &epochs)?;
     Ok(Solved {
-        flow: progress.flow,
+        flow: rounds.flow,
         epochs,
         count,
     })

@@ -5,7 +5,7 @@
 //! and wants a unit; the least one receives. Before a vertex comes the least tail of tight arcs into it that was reached, by the
 //! lowest arc between the two. Only arcs at vertices that were reached are looked at.
 
-ghost use Rattle.std.specs.Prelude.{◌≡◌, ◌≤◌, ◌<◌, ◌-◌, ◌/◌, ◌^◌, ◌⊎◌, ℕ, [], ◌∷◌, nat_eq, All, Contains, length, map, IfOk, OnOk, Some, None};
+ghost use Rattle.std.specs.Prelude.{◌≡◌, ◌≤◌, ◌<◌, ◌-◌, ◌/◌, ◌^◌, ◌⊎◌, ℕ, [], ◌∷◌, nat_eq, All, Contains, length, map, OnOk, Some, None};
 ghost use Rattle.std.specs.Option.{option_map};
 ghost use Rattle.indexmap.specs.IndexSet.{insert_all};
 ghost use Rattle.net_base.specs.Keys.{is_among};
@@ -219,25 +219,51 @@ fn read_path(
     Ok(())
 }
 
-/// The path of a round: from the sender to the receiver.
+/// Room in which paths are found, used anew in each round.
+#[derive(Drop)]
+pub(crate) struct PathRoom {
+    // What tight arcs reach from the sender.
+    reached: IndexSet<u32>,
+    /// The path that was found last.
+    pub(crate) path: Vec<Step>,
+}
+
+impl PathRoom {
+    /// Nothing was reached, and no path was found.
+    pub(crate) fn new(alloc: Global) -> PathRoom {
+        PathRoom {
+            reached: IndexSet::new(alloc),
+            path: Vec::new(alloc),
+        }
+    }
+}
+
+/// Finds the path of a round: from the sender to the receiver.
 pub(crate) fn find_path(
-    alloc: Global,
     net: &Net,
     incidence: &Incidence,
     flow: &Flow,
     labels: &Labels,
     from: u32,
-) -> Result<Vec<Step>, NoMemory>
+    room: &mut PathRoom,
+) -> Result<(), NoMemory>
     requires read { AreRead net.now flow.now labels.now.far labels.now.hops }
     requires incidence { AreIncidences net.now incidence.now }
     requires labels { AreLabels net.now flow.now (at_vertex labels.now.far) (count_at labels.now.hops) }
     requires vertex { from < vertex_count net.now }
-    ensures { IfOk result (λ path. map way_of path.items ≡ path_of net.now flow.now (Some from)) }
+    ensures { OnOk result (map way_of room.new.path.items ≡ path_of net.now flow.now (Some from)) }
 {
-    let mut reached = IndexSet::new(alloc);
-    reached.insert(from)?;
-    reach_all(net, incidence, flow, labels, from, &mut reached)?;
-    let mut path = Vec::new(alloc);
-    read_path(net, incidence, flow, labels, &reached, from, &mut path)?;
-    Ok(path)
+    room.reached.clear();
+    room.reached.insert(from)?;
+    reach_all(net, incidence, flow, labels, from, &mut room.reached)?;
+    room.path.clear();
+    read_path(
+        net,
+        incidence,
+        flow,
+        labels,
+        &room.reached,
+        from,
+        &mut room.path,
+    )
 }

@@ -6,7 +6,7 @@ use Rattle.stage_flow.proofs.passes.pass.Goals as goal
 pub loop-place-init : goal.loop-place-init
 loop-place-init c = record {
   each = (refl, c.requires.each);
-  nears = λ lengths counts fits under. (nears-none c.args.direction lengths counts c.args.far.now c.args.hops.now under, λ place low. absurd (omega (arith, low)));
+  nears = λ lengths counts fits under. (nears-none lengths counts c.args.far.now c.args.hops.now under, λ place low. absurd (omega (arith, low)));
 }
 
 pub loop-place-preserved : goal.loop-place-preserved
@@ -15,7 +15,7 @@ loop-place-preserved c =
     let own = c.step_pin.ensures.each in record {
       each = (omega (arith, before.0, own.0), omega (arith, before.0, own.1));
       nears = λ lengths counts fits under.
-          pins-stepped c.args.direction lengths counts c.args.net.now c.args.flow.now c.loop-place.place c.mirror.result c.as_slice-pin-items.result.now c.as_slice-units.result.now
+          pins-stepped lengths counts c.args.net.now c.args.flow.now c.loop-place.place c.mirror.result c.as_slice-pin-items.result.now c.as_slice-units.result.now
           c.args.far.now c.loop-place.far c.step_pin.new.far c.args.hops.now c.loop-place.hops c.step_pin.new.hops before.0 own.0
           c.as_slice-pin-items.ensures c.as_slice-units.ensures c.mirror.ensures.value c.loop-place-test.true (c.step_pin.ensures.nears lengths counts) fits
           (c.loop-place.invariant.nears lengths counts fits under);

@@ -11,7 +11,7 @@ loop-count-preserved c =
     let own = c.pass.ensures.each in record {
       each = (omega (arith, before.0, own.0), omega (arith, before.0, own.1));
       come = λ starts lengths counts target come.
-          come-on c.args.direction c.args.net.now c.args.flow.now starts lengths counts c.requires.net c.requires.pins target c.loop-count._count c.loop-count.far c.pass.new.far c.loop-count.hops c.pass.new.hops before.0 own.0
+          come-on c.args.net.now c.args.flow.now starts lengths counts c.requires.net c.requires.pins target c.loop-count._count c.loop-count.far c.pass.new.far c.loop-count.hops c.pass.new.hops before.0 own.0
           (c.pass.ensures.nears lengths counts) (c.loop-count.invariant.come starts lengths counts target come);
     }
 

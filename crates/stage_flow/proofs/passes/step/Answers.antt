@@ -8,9 +8,9 @@ pub returns-then-is_residual-clause-nears : goal.returns-then-is_residual-clause
 returns-then-is_residual-clause-nears c = λ lengths counts fits under.
     let span : to_z w64 (of_z w64 c.args.span) ≡ c.args.span = omega (arith, ints) in
     let done = subst (λ (s : ℤ).
-    OffersNoBetter c.args.direction lengths counts (way_by c.args.tail c.args.head s)
+    OffersNoBetter lengths counts (way_by c.args.tail c.args.head s)
     → AreUnder lengths counts c.args.far.now c.args.hops.now
     → Nears lengths counts c.args.far.now c.args.hops.now c.offer.new.far c.offer.new.hops
-    × Brings c.args.direction lengths counts c.args.far.now c.args.hops.now c.offer.new.far c.offer.new.hops (way_by c.args.tail c.args.head s)) span
+    × Brings lengths counts c.args.far.now c.args.hops.now c.offer.new.far c.offer.new.hops (way_by c.args.tail c.args.head s)) span
     (c.offer.ensures.nears lengths counts) (fits c.if-is_residual.true) under in
     (done.0, λ is. done.1)

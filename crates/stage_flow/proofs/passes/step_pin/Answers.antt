@@ -5,7 +5,7 @@ use Rattle.stage_flow.proofs.passes.step_pin.Goals as goal
 
 pub returns-clause-nears : goal.returns-clause-nears
 returns-clause-nears c = λ lengths counts.
-    pin-stepped c.args.direction lengths counts c.args.far.now c.step.new.far c.step-2.new.far c.step-3.new.far c.step-4.new.far
+    pin-stepped lengths counts c.args.far.now c.step.new.far c.step-2.new.far c.step-3.new.far c.step-4.new.far
     c.args.hops.now c.step.new.hops c.step-2.new.hops c.step-3.new.hops c.step-4.new.hops
     c.step.ensures.each.0 c.step-2.ensures.each.0 c.step-3.ensures.each.0 c.step-4.ensures.each.0
     c.args.mirror c.args.pin.now c.args.units.now _ _ _

@@ -1,22 +1,26 @@
-use Rattle.std.proofs.Common.{◌≡◌, ◌<◌, ℕ, ℤ, subst, sym}
-use Rattle.std.proofs.lemmas.Result.{IfOk-weaker}
-use Rattle.stage_flow.specs.declared.search.Labels.{Labels}
-use Rattle.stage_flow.specs.declared.settling.Direction.TheVariants.{Backwards}
+use Rattle.std.proofs.Common.{◌≡◌, ◌∙◌, ℤ, List, length, ap, sym, subst}
 use Rattle.stage_flow.specs.Residual.{vertex_count}
 use Rattle.stage_flow.specs.Given.{at_vertex, count_at}
-use Rattle.stage_flow.specs.LawsOfWalks.{AreLabels}
-use Rattle.stage_flow.specs.Passes.{mark_at, IsTarget, SayWhoWants}
-use Rattle.stage_flow.proofs.PassLabels.{passes-labels}
+use Rattle.stage_flow.specs.Passes.{SayWhoWants}
+use Rattle.stage_flow.specs.Mending.{AreRightOutside}
+use Rattle.stage_flow.specs.Beginning.{AreAtMost}
+use Rattle.stage_flow.proofs.ProgressNetworks.{vertices-few}
+use Rattle.stage_flow.proofs.FirstLabels.{begun-right}
 use Rattle.stage_flow.proofs.search.find_labels.Goals as goal
 
-pub returns-clause-labels : goal.returns-clause-labels
-returns-clause-labels c =
+pub marked-requires-clause-few : goal.marked-requires-clause-few
+marked-requires-clause-few c = vertices-few c.args.net.now c.requires.net
+
+pub settle-requires-clause-right : goal.settle-requires-clause-right
+settle-requires-clause-right c =
     let net = c.args.net.now in
     let flow = c.args.flow.now in
-    let marks = c.as_slice-3.result.now in
-    IfOk-weaker c.passes.result
-    (λ (labels : Labels). (far : ℕ → ℤ) (hops : ℕ → ℕ) → IsTarget Backwards net flow (mark_at marks) far hops → (vertex : ℕ) → vertex < vertex_count net → (at_vertex labels.far vertex ≡ far vertex) × (count_at labels.hops vertex ≡ hops vertex))
-    (λ (labels : Labels). AreLabels net flow (at_vertex labels.far) (count_at labels.hops))
-    (λ labels come. passes-labels net flow c.args.potentials.now marks labels.far labels.hops c.requires.net c.requires.flow c.requires.wanted c.requires.potentials
-    (subst (SayWhoWants net flow) (sym c.as_slice-3.ensures.value) c.in_ok-wanting.ensures.wants) come)
-    c.passes.ensures.come
+    let marks = c.as_slice-wanting.result.now in
+    let far = c.in_ok-labels.labels.far in
+    let hops = c.in_ok-labels.labels.hops in
+    let read = c.as_slice-wanting.ensures.value in
+    let each : length marks ≡ vertex_count net = ap length read ∙ c.in_ok-wanting.ensures.each in
+    let says = subst (SayWhoWants net flow) (sym read) c.in_ok-wanting.ensures.wants in
+    let most = subst (λ (numbers : List ℤ). AreAtMost marks numbers far hops) c.as_slice.ensures c.in_ok-labels.ensures.most in
+    subst (AreRightOutside net flow (at_vertex far) (count_at hops)) (sym c.as_mut_slice.ensures.value)
+    (begun-right net flow c.requires.net marks each says c.args.potentials.now c.requires.potentials far hops most c.in_ok-stale.stale.items c.in_ok-stale.ensures.others)

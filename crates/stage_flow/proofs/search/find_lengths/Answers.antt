@@ -1,6 +1,5 @@
 use Rattle.std.proofs.Common.{◌≡◌, ◌≢◌, ◌<◌, ℕ, ℤ, suc, Bool, List, [], length, ◌∙◌, ap, arith}
 use Rattle.std.proofs.lemmas.Result.{IfOk-weaker}
-use Rattle.stage_flow.specs.declared.settling.Direction.TheVariants.{Forwards}
 use Rattle.stage_flow.specs.Residual.{vertex_count}
 use Rattle.stage_flow.specs.Given.{at_vertex, count_at}
 use Rattle.stage_flow.specs.LawsOfEpochs.{AreLabelsFromSource}
@@ -21,7 +20,7 @@ returns-clause-labels c =
     (ap (λ (xs : List Bool). mark_at xs 0) same ∙ c.in_ok-starts.ensures.source)
     (λ vertex within. ap (λ (xs : List Bool). mark_at xs (suc vertex)) same ∙ c.in_ok-starts.ensures.others vertex within) in
     IfOk-weaker c.passes.result
-    (λ labels. (far : ℕ → ℤ) (hops : ℕ → ℕ) → IsTarget Forwards net flow is_start far hops → (vertex : ℕ) → vertex < vertex_count net → (at_vertex labels.far vertex ≡ far vertex) × (count_at labels.hops vertex ≡ hops vertex))
+    (λ labels. (far : ℕ → ℤ) (hops : ℕ → ℕ) → IsTarget net flow is_start far hops → (vertex : ℕ) → vertex < vertex_count net → (at_vertex labels.far vertex ≡ far vertex) × (count_at labels.hops vertex ≡ hops vertex))
     (λ labels. AreLabelsFromSource net flow (at_vertex labels.far) (count_at labels.hops))
     (λ labels finds. labels-agreed net flow found.far (at_vertex labels.far) found.hops (count_at labels.hops) c.requires.net found.labels (finds found.far found.hops found.target))
     c.passes.ensures.come

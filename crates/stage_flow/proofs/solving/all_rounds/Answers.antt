@@ -1,12 +1,27 @@
-use Rattle.std.proofs.Common.{◌≡◌, ◌∙◌, sym, ap, subst, arith}
-use Rattle.flow_net.specs.Flows.{IsFullFlow}
-use Rattle.stage_flow.specs.Rounds.{flow_after}
-use Rattle.stage_flow.proofs.RoundsSent.{flow-full}
+use Rattle.std.proofs.Common.{◌≡◌, ◌<◌, ◌∙◌, refl, sym, subst, arith}
+use Rattle.flow_net.specs.declared.net.Flow.{Flow}
+use Rattle.stage_flow.specs.Rounds.{no_units}
+use Rattle.stage_flow.specs.Given.{ArePotentials}
+use Rattle.stage_flow.proofs.RoundsSent.{flow-sent, flow-wanted}
+use Rattle.stage_flow.proofs.ProgressPotentials.{first-potentials}
 use Rattle.stage_flow.proofs.solving.all_rounds.Goals as goal
 
-pub returns-clause-full : goal.returns-clause-full
-returns-clause-full c =
-    let net = c.args.net.now in
-    let progress = c.loop-progress.progress in
-    let all : progress.sent ≡ net.drivers = omega (arith, c.loop-progress.invariant.few) in
-    subst (IsFullFlow net) (sym (c.loop-progress.invariant.flow ∙ ap (flow_after net) all)) (flow-full net c.requires)
+pub returns-then-net-eq0-clause-potentials : goal.returns-then-net-eq0-clause-potentials
+returns-then-net-eq0-clause-potentials c =
+    subst (λ (flow : Flow). ArePotentials c.args.net.now flow c.in_ok-potentials.potentials) (sym c.in_ok-flow.ensures)
+    (first-potentials c.args.net.now c.in_ok-potentials.potentials c.requires.net c.in_ok-potentials.ensures.each c.in_ok-potentials.ensures.own)
+
+pub find_labels-requires-clause-flow : goal.find_labels-requires-clause-flow
+find_labels-requires-clause-flow c =
+    let some : 0 < c.args.net.now.drivers = omega (arith, c.if-net-eq0.false) in
+    (flow-sent c.args.net.now c.requires.net 0 c.in_ok-flow.flow c.in_ok-flow.ensures some).part
+
+pub find_labels-requires-clause-wanted : goal.find_labels-requires-clause-wanted
+find_labels-requires-clause-wanted c =
+    let some : 0 < c.args.net.now.drivers = omega (arith, c.if-net-eq0.false) in
+    flow-wanted c.args.net.now c.requires.net 0 c.in_ok-flow.flow c.in_ok-flow.ensures some
+
+pub find_labels-requires-clause-potentials : goal.find_labels-requires-clause-potentials
+find_labels-requires-clause-potentials c =
+    subst (λ (flow : Flow). ArePotentials c.args.net.now flow c.in_ok-potentials.potentials) (sym c.in_ok-flow.ensures)
+    (first-potentials c.args.net.now c.in_ok-potentials.potentials c.requires.net c.in_ok-potentials.ensures.each c.in_ok-potentials.ensures.own)

@@ -1,0 +1,263 @@
+-- What a round leaves of labels. A residual arc is lost only where it took a unit back and the path took it too, so its tail is on the
+-- path; every other vertex keeps its tight arc. Of who wants, the receiver alone changes: it wants no more.
+use Rattle.std.proofs.Common.{◌≡◌, ◌≢◌, ◌<◌, ◌≤◌, ◌+◌, ◌==◌, ◌&&◌, ◌/◌, ◌^◌, ◌∙◌, ◌++◌, ◌⊎◌, ◌+ℤ◌, ◌-ℤ◌, ◌≤ℤ◌, inl, inr, ℕ, ℤ, suc, pos, nat_lt, nat_le, int_lt, Bool, true, false, not, cond, List, [], ◌∷◌, length, All, Any, Contains, Some, refl, ap, sym, subst, arith, true≢false, ⊎_elim}
+use Rattle.std.proofs.lemmas.Bool.{cases_eq, cases_lt, eqb-true, eq-eqb, ne_eqb, leb-true, and_parts}
+use Rattle.std.proofs.lemmas.Bool.Decides.{nat_tests}
+use Rattle.std.proofs.lemmas.Int.{ints}
+use Rattle.std.proofs.lemmas.List.Elements.{All-nil, All-cons, All-head, All-tail, All-append, All-map, All-contains, All-weaker, Contains-append_left, Contains-append_right}
+use Rattle.flow_net.specs.declared.net.Net.{Net}
+use Rattle.flow_net.specs.declared.net.Flow.{Flow}
+use Rattle.flow_net.specs.Arcs.{Arc, arcs_of}
+use Rattle.flow_net.specs.Flows.{units_on, out_minus_in, wants as wanted_of}
+use Rattle.stage_flow.specs.Residual.{Way, adding, taking, ways_of, vertex_count}
+use Rattle.stage_flow.specs.Longest.{Reach}
+use Rattle.stage_flow.specs.Rounds.{sender, is_wanting, path_of, moved, along, sent_along, after_round}
+use Rattle.stage_flow.specs.LawsOfWalks.{IsWalk, IsTight, AreLabels, HasUnits, IsRound, unit_at, label}
+use Rattle.stage_flow.specs.LawsOfSending.{IsPartFlow}
+use Rattle.stage_flow.specs.Given.{IsNetwork}
+use Rattle.stage_flow.specs.Mending.{IsSound, AreRightOutside}
+use Rattle.stage_flow.specs.Passes.{mark_at}
+use Rattle.stage_flow.specs.Staleness.{SayWhoWaits, AreSpread, end_of, AreLeftByRound, tails_on, NoneIsMarked}
+use Rattle.stage_flow.proofs.Labels.{IsLow, tight-nearer, labels-for, wanting-low, hops-below}
+use Rattle.stage_flow.proofs.LabelBounds.{far-within_hops}
+use Rattle.stage_flow.proofs.Units.{arc-same, arc-low, units_on-along, units_on-others}
+use Rattle.stage_flow.proofs.Along.{way-on, adding-in, taking-in, has_units-along, IsOnArc, on_arc, walk-inside}
+use Rattle.stage_flow.proofs.Round.{ways-low, sender-low, after_round-is, rounds_go_by_labels}
+use Rattle.stage_flow.proofs.Wants.{sender-low as sends-low}
+use Rattle.stage_flow.proofs.Wanting.{wants-mirror}
+use Rattle.stage_flow.proofs.StillToSend.{sender-sends}
+use Rattle.stage_flow.proofs.ProgressNetworks.{vertices-few, light, ends-among}
+
+-- ---- Residual arcs that stay
+-- A residual arc stays when a unit goes along one that leaves another vertex,
+still-along : (net : Net) (flow : Flow) (way other : Way) → HasUnits net flow → IsOnArc net way → (way.tail ≡ other.tail → ⊥) → Contains (ways_of net flow) other → Contains (ways_of net (along way flow)) other
+still-along net flow way other units (arc, there, of) apart inside =
+    let on = way-on net flow other inside in
+    ⊎_elim {C = Contains (ways_of net (along way flow)) other}
+    (λ adds. subst (Contains (ways_of net (along way flow))) (sym adds) (adding-in net (along way flow) on.arc on.there))
+    (λ takes. subst (Contains (ways_of net (along way flow))) (sym takes.0) (taking-in net (along way flow) on.arc on.there (some on.arc on.there takes.0 takes.1)))
+    on.is
+  where
+    some : (a : Arc) → Contains (arcs_of net) a → other ≡ taking a → 0 < units_on flow a → 0 < units_on (along way flow) a
+    some a at takes had =
+        let within : a.number / 2 < length flow.pins = omega (arith, arc-low net a at, units.each) in
+        ⊎_elim {C = 0 < units_on (along way flow) a}
+        (λ same.
+        let changed = units_on-along way flow a within same in
+        ⊎_elim {C = 0 < units_on (along way flow) a}
+        (λ adds. let more = ap (λ (w : Way). moved w.takes (units_on flow a)) adds in omega (arith, changed, more))
+        (λ back.
+        let number = ap (λ (w : Way). w.number) back in
+        let one : a ≡ arc = arc-same net a arc at there (same ∙ number) in
+        absurd (apart (ap (λ (w : Way). w.tail) back ∙ sym (ap (λ (x : Arc). x.head) one) ∙ sym (ap (λ (w : Way). w.tail) takes))))
+        of)
+        (λ differs. let kept = units_on-others way flow a within differs in omega (arith, kept, had))
+        (cases_eq a.number way.number)
+
+-- and so it does when one goes along a path that never leaves its tail.
+pub still-sent : (net : Net) (flow : Flow) (path : List Way) (other : Way) → HasUnits net flow → All (IsOnArc net) path → All (λ way. way.tail ≡ other.tail → ⊥) path → Contains (ways_of net flow) other → Contains (ways_of net (sent_along path flow)) other
+still-sent net flow [] other units on apart inside = inside
+still-sent net flow (way ∷ path) other units on apart inside =
+    still-sent net (along way flow) path other (has_units-along net flow way units)
+    (All-tail (IsOnArc net) way path on) (All-tail (λ one. one.tail ≡ other.tail → ⊥) way path apart)
+    (still-along net flow way other units (All-head (IsOnArc net) way path on) (All-head (λ one. one.tail ≡ other.tail → ⊥) way path apart) inside)
+
+-- ---- Who wants
+walk-ends : (ways : List Way) (from to : ℕ) (walk : List Way) → IsWalk ways from to walk → end_of from walk ≡ to
+walk-ends ways from to [] here = here
+walk-ends ways from to (way ∷ walk) (there, begins, goes) = walk-ends ways way.head to walk goes
+
+-- By labels those that want are those with no arc to go.
+wanting-none : (net : Net) (flow : Flow) (far : ℕ → ℤ) (hops : ℕ → ℕ) → AreLabels net flow far hops → (vertex : ℕ) → vertex < vertex_count net → is_wanting net flow vertex ≡ (hops vertex == 0)
+wanting-none net flow far hops labels vertex low = by (is_wanting net flow vertex) refl
+  where
+    by : (b : Bool) → is_wanting net flow vertex ≡ b → b ≡ (hops vertex == 0)
+    by true wants = sym (eq-eqb (hops vertex) 0 (ap (λ (r : Reach). r.hops) (labels.nothing vertex wants)))
+    by false none =
+        let (k, way, within, there, (begins, tight)) = labels.onward vertex low none in
+        let nearer = tight-nearer far hops way tight in
+        let same = ap hops begins in
+        sym (ne_eqb (hops vertex) 0 (λ zero. absurd (omega (arith, nearer, same, zero))))
+
+no-less : (a b : ℤ) → b ≤ℤ a → int_lt a b ≡ false
+no-less a b over = grind (arith, ints)
+
+and-last : (a b c : Bool) → c ≡ false → (a && (b && c)) ≡ false
+and-last false b c none = refl
+and-last true false c none = refl
+and-last true true c none = none
+
+and-true : (a b : Bool) → b ≡ true → (a && b) ≡ a
+and-true false b is = refl
+and-true true b is = is
+
+and-false : (a b : Bool) → b ≡ false → (a && b) ≡ false
+and-false false b is = refl
+and-false true b is = is
+
+-- whether a vertex is a mirror and wants, by what leaves it less what enters it
+abbrev wants-by : Net → ℕ → ℤ → Bool
+wants-by net vertex out = nat_le (net.gates + 2) vertex && (nat_lt vertex (vertex_count net) && int_lt (wanted_of net vertex) out)
+
+elsewhere : (place vertex : ℕ) → (place ≡ vertex → ⊥) → unit_at place vertex ≡ pos 0
+elsewhere place vertex apart = ap (λ b. cond b (pos 1) (pos 0)) (ne_eqb place vertex apart)
+
+here : (place : ℕ) → unit_at place place ≡ pos 1
+here place = ap (λ b. cond b (pos 1) (pos 0)) (eq-eqb place place refl)
+
+-- After a round the receiver wants no more, and nobody else changes.
+wanting-after : (net : Net) (flow after : Flow) (from mirror : ℕ) → IsPartFlow net flow → from < net.gates + 2 → is_wanting net flow mirror ≡ true
+    → ((vertex : ℕ) → out_minus_in net after vertex ≡ (out_minus_in net flow vertex +ℤ unit_at from vertex) -ℤ unit_at mirror vertex)
+    → (vertex : ℕ) → is_wanting net after vertex ≡ (is_wanting net flow vertex && not (vertex == mirror))
+wanting-after net flow after from mirror part low wants ends vertex = by (vertex == mirror) refl
+  where
+    rest : Bool
+    rest = nat_lt mirror (vertex_count net) && int_lt (wanted_of net mirror) (out_minus_in net flow mirror)
+
+    high : net.gates + 2 ≤ mirror
+    high = leb-true (net.gates + 2) mirror (and_parts (nat_le (net.gates + 2) mirror) rest wants).0
+
+    within : mirror < vertex_count net
+    within = wanting-low net flow mirror wants
+
+    served : wants-by net mirror (out_minus_in net after mirror) ≡ false
+    served =
+        let wanted = wants-mirror net mirror high within in
+        let most = (part.received mirror high).1 in
+        let out = ends mirror in
+        let none = elsewhere from mirror (λ same. absurd (omega (arith, same, low, high))) in
+        let one = here mirror in
+        and-last (nat_le (net.gates + 2) mirror) (nat_lt mirror (vertex_count net)) (int_lt (wanted_of net mirror) (out_minus_in net after mirror))
+        (no-less (wanted_of net mirror) (out_minus_in net after mirror) (omega (arith, ints, wanted, most, out, none, one)))
+
+    other : (vertex ≡ mirror → ⊥) → is_wanting net after vertex ≡ is_wanting net flow vertex
+    other apart =
+        ⊎_elim {C = is_wanting net after vertex ≡ is_wanting net flow vertex}
+        (λ (below : vertex < net.gates + 2).
+        let test : nat_le (net.gates + 2) vertex ≡ false = grind (arith, nat_tests) in
+        ap (λ b. b && (nat_lt vertex (vertex_count net) && int_lt (wanted_of net vertex) (out_minus_in net after vertex))) test
+        ∙ sym (ap (λ b. b && (nat_lt vertex (vertex_count net) && int_lt (wanted_of net vertex) (out_minus_in net flow vertex))) test))
+        (λ (above : net.gates + 2 ≤ vertex).
+        let none = elsewhere from vertex (λ same. absurd (omega (arith, same, low, above))) in
+        let nothing = elsewhere mirror vertex (λ same. apart (sym same)) in
+        let out = ends vertex in
+        ap (wants-by net vertex) (let same : out_minus_in net after vertex ≡ out_minus_in net flow vertex = omega (arith, ints, out, none, nothing) in same))
+        (cases_lt vertex (net.gates + 2))
+
+    by : (b : Bool) → (vertex == mirror) ≡ b → is_wanting net after vertex ≡ (is_wanting net flow vertex && not b)
+    by true same = ap (is_wanting net after) (eqb-true vertex mirror same) ∙ served ∙ sym (and-false (is_wanting net flow vertex) (not true) refl)
+    by false apart = other (λ same. true≢false (sym (eq-eqb vertex mirror same) ∙ apart)) ∙ sym (and-true (is_wanting net flow vertex) (not false) refl)
+
+-- ---- What is left
+pub round-left : (net : Net) (flow : Flow) (far : ℕ → ℤ) (hops : ℕ → ℕ) (from : ℕ) → IsNetwork net → IsPartFlow net flow → AreLabels net flow far hops → sender net flow ≡ Some from
+    → AreLeftByRound net (after_round net flow) far hops from (path_of net flow (Some from))
+round-left net flow far hops from is part labels sends =
+    let ends = ends-among net is in
+    let low = ways-low net flow ends in
+    let units : HasUnits net flow = record { each = part.each } in
+    let start = sender-low net flow from sends in
+    let (mirror, round) = rounds_go_by_labels net flow far hops from ends units (labels-for net flow far hops labels low from start) sends in
+    record {
+      fits = round.labels;
+      waits = λ v within.
+          wanting-after net flow (after_round net flow) from mirror part (sends-low net flow from (sender-sends net flow from sends)).0 round.receives.wants round.ends v
+          ∙ (λ i. wanting-none net flow far hops labels v within i && not (v == sym (walk-ends (ways_of net flow) from mirror (path_of net flow (Some from)) round.path.goes) i));
+      zero = λ v wants. labels.nothing v (before mirror round v wants);
+      few = λ v within. hops-below net flow far hops labels low v within;
+      held = λ v within. bounds (far v) (hops v) (far-within_hops net flow far hops ends (light net is) labels v within) (vertices-few net is);
+      low = All-weaker (Contains (ways_of net flow)) (λ way. (way.tail < vertex_count net) × (way.head < vertex_count net))
+          (λ way there. let own = All-contains (IsLow (vertex_count net)) (ways_of net flow) way low there in (own.0, own.1))
+          (path_of net flow (Some from)) (walk-inside (ways_of net flow) from mirror (path_of net flow (Some from)) round.path.goes);
+      starts = start;
+      sound = λ v within apart other. sound mirror round v within apart (λ same. other (same ∙ sym (walk-ends (ways_of net flow) from mirror (path_of net flow (Some from)) round.path.goes)));
+    }
+  where
+    path : List Way
+    path = path_of net flow (Some from)
+
+    units : HasUnits net flow
+    units = record { each = part.each }
+
+    bounds : (f : ℤ) (h : ℕ) → (f ≤ℤ pos h) × ((pos 0 -ℤ pos h) ≤ℤ f) × (h < vertex_count net) → vertex_count net < 2 ^ 32 → ((pos 0 -ℤ pos (2 ^ 42)) ≤ℤ f) × (f ≤ℤ pos (2 ^ 42))
+    bounds f h (most, least, few) small = (omega (arith, ints, least, few, small), omega (arith, ints, most, few, small))
+
+    before : (mirror : ℕ) → IsRound net flow far hops from mirror → (v : ℕ) → is_wanting net (after_round net flow) v ≡ true → is_wanting net flow v ≡ true
+    before mirror round v wants =
+        (and_parts (is_wanting net flow v) (not (v == mirror))
+        (sym (wanting-after net flow (after_round net flow) from mirror part (sends-low net flow from (sender-sends net flow from sends)).0 round.receives.wants round.ends v) ∙ wants)).0
+
+    sound : (mirror : ℕ) → IsRound net flow far hops from mirror → (v : ℕ) → v < vertex_count net → All (λ way. way.tail ≡ v → ⊥) path → (v ≡ mirror → ⊥) → IsSound net (after_round net flow) far hops [] v
+    sound mirror round v within apart other = by (is_wanting net flow v) refl
+      where
+        by : (b : Bool) → is_wanting net flow v ≡ b → IsSound net (after_round net flow) far hops [] v
+        by true wants =
+            inl (wanting-after net flow (after_round net flow) from mirror part (sends-low net flow from (sender-sends net flow from sends)).0 round.receives.wants round.ends v
+            ∙ (λ i. wants i && not (ne_eqb v mirror other i)))
+        by false none =
+            let (k, way, low, there, (begins, tight)) = labels.onward v within none in
+            let inside = still-sent net flow path way units
+            (All-weaker (Contains (ways_of net flow)) (IsOnArc net) (on_arc net flow) path (walk-inside (ways_of net flow) from mirror path round.path.goes))
+            (All-weaker (λ one. one.tail ≡ v → ⊥) (λ one. one.tail ≡ way.tail → ⊥) (λ one differs same. differs (same ∙ begins)) path apart) (k, low, there) in
+            let kept : Contains (ways_of net (after_round net flow)) way = subst (λ (f : Flow). Contains (ways_of net f) way) (sym (after_round-is net flow from sends)) inside in
+            inr (kept.0, way, kept.1, kept.2, (begins, tight, refl))
+
+-- ---- Where the search for stale vertices begins
+-- A vertex is among the tails of a path, or no arc of it leaves the vertex.
+among-tails : (path : List Way) (vertex : ℕ) → Contains (tails_on path) vertex ⊎ All (λ way. way.tail ≡ vertex → ⊥) path
+among-tails [] vertex = inr (All-nil (λ way. way.tail ≡ vertex → ⊥))
+among-tails (way ∷ path) vertex =
+    ⊎_elim {C = Contains (tails_on (way ∷ path)) vertex ⊎ All (λ one. one.tail ≡ vertex → ⊥) (way ∷ path)}
+    (λ same. inl (0, omega arith, same))
+    (λ apart.
+    ⊎_elim {C = Contains (tails_on (way ∷ path)) vertex ⊎ All (λ one. one.tail ≡ vertex → ⊥) (way ∷ path)}
+    (λ later. let (k, within, is) = later in inl (suc k, omega arith, is))
+    (λ none. inr (All-cons (λ one. one.tail ≡ vertex → ⊥) way path apart none))
+    (among-tails path vertex))
+    (cases_eq way.tail vertex)
+
+-- What is sound while nobody is marked is so by marks that nobody has.
+sound-unmarked : (net : Net) (flow : Flow) (far : ℕ → ℤ) (hops : ℕ → ℕ) (marks : List Bool) (vertex : ℕ) → ((v : ℕ) → mark_at marks v ≡ false) → IsSound net flow far hops [] vertex → IsSound net flow far hops marks vertex
+sound-unmarked net flow far hops marks vertex none (inl wants) = inl wants
+sound-unmarked net flow far hops marks vertex none (inr (k, way, within, there, (begins, tight, free))) = inr (k, way, within, there, (begins, tight, none way.head))
+
+pub spread-start : (net : Net) (flow : Flow) (far : ℕ → ℤ) (hops : ℕ → ℕ) (from : ℕ) (path : List Way) (marks : List Bool) (vertices pending : List ℕ) → AreLeftByRound net flow far hops from path → NoneIsMarked net marks → vertices ≡ []
+    → pending ≡ tails_on path ++ end_of from path ∷ [] → AreSpread net flow far hops marks vertices pending
+spread-start net flow far hops from path marks vertices pending left clear empty is = record {
+  marked = record {
+    low = subst (All (λ v. v < vertex_count net)) (sym empty) (All-nil (λ v. v < vertex_count net));
+    all = λ v marked. absurd (true≢false (sym marked ∙ clear.none v));
+  };
+  unmarked = λ v wants. clear.none v;
+  low = subst (All (λ v. v < vertex_count net)) (sym is)
+      (All-append (λ v. v < vertex_count net) (tails_on path) (end_of from path ∷ [])
+      (All-map (λ v. v < vertex_count net) (λ (way : Way). way.tail) path (All-weaker (λ way. (way.tail < vertex_count net) × (way.head < vertex_count net)) (λ way. way.tail < vertex_count net) (λ way both. both.0) path left.low))
+      (All-cons (λ v. v < vertex_count net) (end_of from path) [] (end-low from path left.starts left.low) (All-nil (λ v. v < vertex_count net))));
+  sound = λ v within none.
+      subst (λ list. Contains list v ⊎ IsSound net flow far hops marks v) (sym is)
+      (⊎_elim {C = Contains (tails_on path ++ end_of from path ∷ []) v ⊎ IsSound net flow far hops marks v}
+      (λ tail. inl (Contains-append_left (tails_on path) (end_of from path ∷ []) v tail))
+      (λ apart.
+      ⊎_elim {C = Contains (tails_on path ++ end_of from path ∷ []) v ⊎ IsSound net flow far hops marks v}
+      (λ same. inl (Contains-append_right (tails_on path) (end_of from path ∷ []) v (0, omega arith, sym same)))
+      (λ other. inr (sound-unmarked net flow far hops marks v clear.none (left.sound v within apart other)))
+      (cases_eq v (end_of from path)))
+      (among-tails path v));
+}
+  where
+    end-low : (at : ℕ) (walk : List Way) → at < vertex_count net → All (λ way. (way.tail < vertex_count net) × (way.head < vertex_count net)) walk → end_of at walk < vertex_count net
+    end-low at [] low all = low
+    end-low at (way ∷ walk) low all =
+        end-low way.head walk (All-head (λ one. (one.tail < vertex_count net) × (one.head < vertex_count net)) way walk all).1
+        (All-tail (λ one. (one.tail < vertex_count net) × (one.head < vertex_count net)) way walk all)
+
+-- and where it ends.
+pub spread-right : (net : Net) (flow : Flow) (far : ℕ → ℤ) (hops : ℕ → ℕ) (from : ℕ) (path : List Way) (marks : List Bool) (vertices : List ℕ) → AreLeftByRound net flow far hops from path → AreSpread net flow far hops marks vertices []
+    → AreRightOutside net flow far hops marks
+spread-right net flow far hops from path marks vertices left spread = record {
+  fits = left.fits;
+  nothing = λ v wants. (left.zero v wants, spread.unmarked v wants);
+  few = left.few;
+  held = left.held;
+  sound = λ v within none.
+      ⊎_elim {C = IsSound net flow far hops marks v} (λ nowhere. let (k, low, is) = nowhere in absurd (omega (arith, low))) (λ own. own) (spread.sound v within none);
+}

@@ -1,0 +1,39 @@
+use Rattle.std.proofs.Common.{◌≡◌, ◌/◌, ◌<◌, ◌∙◌, ◌++◌, ◌⊎◌, ◌∷◌, [], inl, inr, true, ℕ, List, Some, None, length, All, Contains, ap, sym, subst, arith, ⊎_elim}
+use Rattle.std.specs.Prelude.{slice_set}
+use Rattle.stage_flow.specs.Given.{at_vertex, count_at}
+use Rattle.stage_flow.specs.Sending.{ways_by}
+use Rattle.stage_flow.specs.Staleness.{tails_of, AreSpread}
+use Rattle.stage_flow.proofs.SendingSearch.{ways_near, numbers-low, ways_by-near}
+use Rattle.stage_flow.proofs.StaleVertices.{length-marked, spread-more, found-one, spread-done}
+use Rattle.stage_flow.proofs.stale.spread.Goals as goal
+
+pub push_tails-requires-clause-pins : goal.push_tails-requires-clause-pins
+push_tails-requires-clause-pins c =
+    let low = c.in-Some.ensures.found.0 in
+    subst (All (λ number. number / 2 < length c.args.net.now.pins)) (sym (c.at.ensures ∙ c.requires.incidence.at c.in-Some.vertex low)) (numbers-low c.args.net.now c.in-Some.vertex)
+
+pub loop-vertex-preserved : goal.loop-vertex-preserved
+loop-vertex-preserved c =
+    let net = c.args.net.now in
+    let flow = c.args.flow.now in
+    let far = at_vertex c.args.labels.now.far in
+    let hops = count_at c.args.labels.now.hops in
+    let found = c.in-Some.vertex in
+    let after = c.next_stale.new.pending.items in
+    let low = c.in-Some.ensures.found.0 in
+    let tails = c.in_ok-push_tails.ensures
+    ∙ ap (λ numbers. after ++ tails_of far hops found (ways_by net flow numbers)) (c.at.ensures ∙ c.requires.incidence.at found low)
+    ∙ ap (λ ways. after ++ tails_of far hops found ways) (ways_by-near net flow found) in
+    let each : length c.loop-vertex.marks ≡ length c.args.marks.now = c.loop-vertex.invariant.each in
+    record {
+      each = length-marked c.loop-vertex.marks found ∙ each;
+      spread = subst (λ pending. AreSpread net flow far hops (slice_set c.loop-vertex.marks found true) c.push.new.self.items pending) (sym tails)
+          (subst (λ vertices. AreSpread net flow far hops (slice_set c.loop-vertex.marks found true) vertices (after ++ tails_of far hops found (ways_near net flow found))) (sym c.in_ok-push.ensures.items)
+          (spread-more net flow far hops c.loop-vertex.marks c.loop-vertex.vertices.items c.loop-vertex.pending.items after found c.requires.read.ends (each ∙ c.requires.marks)
+          low c.in-Some.ensures.found.2 c.in-Some.ensures.low (found-one net flow far hops c.loop-vertex.marks c.loop-vertex.pending.items after found c.in-Some.ensures.looked) c.loop-vertex.invariant.spread));
+    }
+
+pub returns-clause-spread : goal.returns-clause-spread
+returns-clause-spread c =
+    spread-done c.args.net.now c.args.flow.now (at_vertex c.args.labels.now.far) (count_at c.args.labels.now.hops) c.loop-vertex.marks c.loop-vertex.vertices.items c.loop-vertex.pending.items c.next_stale.new.pending.items c.next_stale.result
+    (c.next_stale.ensures.none c.in_default.is) c.in_default.is c.next_stale.ensures.looked c.loop-vertex.invariant.spread
