@@ -1,0 +1,12 @@
+mod LinesOfRows
+mod PairedWires
+mod LaterPulses
+mod ClockWindow
+mod PlacesOfWires
+mod TickStands
+mod MadeWires
+mod SpreadRows
+mod RunsAreRight
+mod Examples
+mod MarksAreRight
+mod MarkedTurn

@@ -1,0 +1,7 @@
+pub mod Rows
+pub mod Sites
+pub mod Simulators
+pub mod Laws
+pub mod Reading
+pub mod Running
+pub mod Marks
