@@ -8,17 +8,17 @@ use Rattle.blif_read.specs.Words.{is_unsupported_word, word_of}
 use Rattle.blif_read.specs.State.{with_line}
 use Rattle.blif_read.specs.Faults.{fault_of as line_fault_of}
 use Rattle.blif_read.specs.Reading.{reads, reads_lines, design_of}
-use Rattle.cell_lib.specs.declared.cell.Cell.TheVariants.{Dro, Not, And, Maj}
-use Rattle.flow_net.specs.declared.net.Flow.{Flow}
-use Rattle.pulse_net.specs.declared.net.Element.TheVariants.{Clocked, Split}
-use Rattle.pulse_net.specs.declared.net.Outlet.TheVariants.{Zero, One, Wire}
+use Rattle.cell_lib.specs.declared.cell.Cell.TheVariants.{Dro, Not, And}
+use Rattle.pulse_net.specs.declared.net.Element.TheVariants.{Clocked}
+use Rattle.pulse_net.specs.declared.net.Outlet.TheVariants.{Wire}
 use Rattle.pulse_net.specs.declared.net.PulseNet.{PulseNet}
+use Rattle.netlist_text.specs.Spelling.{line, model_line, header_lines, input_lines, output_lines}
 use Rattle.synth.specs.declared.fault.SynthFault.TheVariants.{Blif, TooManyDros}
 use Rattle.synth.specs.declared.made.Made.{Made}
-use Rattle.synth.specs.Synth.{synth_of, no_flow}
+use Rattle.netlist_text.specs.Lines.{no_flow}
+use Rattle.synth.specs.Synth.{synth_of}
 use Rattle.rsfq_main.specs.declared.words.Command.TheVariants.{Map, Bench}
 use Rattle.rsfq_main.specs.Words.{number_in, number_for, command_of}
-use Rattle.rsfq_main.specs.Spelling.{line, model_line, header_lines, input_lines, output_lines, spelling_of}
 use Rattle.rsfq_main.specs.Summary.{part_lines, size_lines, summary_of}
 use Rattle.rsfq_main.specs.Notes.{note_of}
 use Rattle.rsfq_main.specs.Faults.{Refusal, fault_of, fault_line}
@@ -141,52 +141,10 @@ one_phase_net =
       outputs = Wire 4 ∷ [];
     }
 
-spelling_of_one_phase_net : spelling_of one_phase_net no_flow ≡ codes "rsfq 1\nmodel t\nphases 1\nlatency 3\ninput a 0\ninput b 1\ndro 1 0 2\nnot 1 1 3\nand 2 2 3 4\noutput f 4\nend\n"
-unfolding digits line model_line header_lines input_lines output_lines
-spelling_of_one_phase_net = refl
-
--- the summary of this netlist: its text has 101 bytes, and a DRO 6 junctions, a NOT 9 and an AND 11
+-- the summary of this netlist, with a flow of no pins: its text has 101 bytes, and a DRO 6 junctions, a NOT 9 and an AND 11
 abbrev one_phase_made : Made
 one_phase_made = record { net = one_phase_net; flow = no_flow; tables = 2; nodes = 4; gates = 2; dros = 1; splits = 0; junctions = 26 }
 
 summary_of_one_phase_net : summary_of one_phase_made ≡ codes "tables 2\nnodes 4\ngates 2\ndros 1\nsplits 0\nlatency 3\njunctions 26\nbytes 101\n"
 unfolding digits line model_line header_lines input_lines output_lines part_lines size_lines
 summary_of_one_phase_net = refl
-
--- every other form of a line: a splitter, an input without a wire, constants, and a flow
-abbrev other_lines : PulseNet
-other_lines =
-    record {
-      names = record { model = codes "m"; inputs = codes "a" ∷ codes "b" ∷ []; outputs = codes "f" ∷ codes "g" ∷ codes "h" ∷ [] };
-      phases = 16;
-      latency = 20;
-      inputs = None ∷ Some 0 ∷ [];
-      elements = Split 0 1 12 ∷ [];
-      outputs = Zero ∷ One ∷ Wire 12 ∷ [];
-    }
-
-abbrev two_pins : Flow
-two_pins = record { pins = record { forward = 2; back = 1 } ∷ record { forward = 0; back = 10 } ∷ [] }
-
-spelling_of_other_lines : spelling_of other_lines two_pins ≡ codes "rsfq 1\nmodel m\nphases 16\nlatency 20\ninput a -\ninput b 0\nsplit 0 1 12\noutput f zero\noutput g one\noutput h 12\nflow 2 1\nflow 0 10\nend\n"
-unfolding digits line model_line header_lines input_lines output_lines
-spelling_of_other_lines = refl
-
--- a majority cell has a line of its own, and its text is of format 2
-abbrev majority : PulseNet
-majority =
-    record {
-      names = record { model = codes "top"; inputs = codes "a" ∷ codes "b" ∷ codes "c" ∷ []; outputs = codes "f" ∷ [] };
-      phases = 1;
-      latency = 2;
-      inputs = Some 0 ∷ Some 1 ∷ Some 2 ∷ [];
-      elements = Clocked Maj 1 (0 ∷ 1 ∷ 2 ∷ []) 3 ∷ [];
-      outputs = Wire 3 ∷ [];
-    }
-
-abbrev majority_flow : Flow
-majority_flow = record { pins = record { forward = 3; back = 1 } ∷ record { forward = 0; back = 1 } ∷ record { forward = 0; back = 1 } ∷ record { forward = 1; back = 1 } ∷ [] }
-
-spelling_of_majority : spelling_of majority majority_flow ≡ codes "rsfq 2\nmodel top\nphases 1\nlatency 2\ninput a 0\ninput b 1\ninput c 2\nmaj 1 0 1 2 3\noutput f 3\nflow 3 1\nflow 0 1\nflow 0 1\nflow 1 1\nend\n"
-unfolding digits line model_line header_lines input_lines output_lines
-spelling_of_majority = refl

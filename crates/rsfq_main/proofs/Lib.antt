@@ -1,5 +1,4 @@
 pub mod KeyWords
-pub mod SpellingLines
 pub mod Refusals
 pub mod Noted
 mod Examples

@@ -4,16 +4,16 @@ use Rattle.net_base.specs.Answers.{◌>>=◌}
 use Rattle.blif_lex.specs.declared.lines.TheConstants.{MAX_TEXT_BYTES}
 use Rattle.flow_net.specs.declared.net.Flow.{Flow}
 use Rattle.pulse_net.specs.declared.net.PulseNet.{PulseNet}
+use Rattle.netlist_text.specs.Spelling.{spelling_of}
 use Rattle.synth.specs.declared.fault.SynthFault.{SynthFault}
 use Rattle.synth.specs.declared.made.Made.{Made}
-use Rattle.synth.specs.Meaning.{MeansText}
+use Rattle.synth.specs.Meaning.{MeansText, NeedsFewest}
 use Rattle.synth.specs.Synth.{synth_of}
 use Rattle.gen_blif.specs.Random.{gen_text}
 use Rattle.gen_blif.specs.RippleCarry.{adder_text}
 use Rattle.rsfq_main.specs.declared.words.Command.{Command}
 use Rattle.rsfq_main.specs.declared.words.Command.TheVariants.{Map, Gen, GenAdder, Bench}
 use Rattle.rsfq_main.specs.Faults.{Refusal, TooLong, Synthesis}
-use Rattle.rsfq_main.specs.Spelling.{spelling_of}
 use Rattle.rsfq_main.specs.Summary.{summary_of}
 
 -- the bytes that a command's text has at most; None where it reads no text
@@ -52,19 +52,24 @@ made_of (Gen seed tables) text = Ok (gen_text seed tables)
 made_of (GenAdder bits) text = Ok (adder_text bits)
 made_of (Bench seed tables n) text = summary_text n (gen_text seed tables)
 
--- bytes that mean a text, with n phases: they spell a netlist and a flow, and the netlist means the text
+-- a netlist and a flow are a text's, with n phases: the netlist means the text, and needs the fewest DROs, as the flow shows
+pub record ServesText (n : ℕ) (text : List ℕ) (net : PulseNet) (flow : Flow) : Type 0 where
+  pub means : MeansText n text net
+  pub fewest : NeedsFewest net flow
+
+-- bytes that mean a text, with n phases: they spell a netlist and a flow that are the text's
 pub record SpellsMeaning (n : ℕ) (text bytes : List ℕ) : Type 0 where
   pub net : PulseNet
   pub flow : Flow
   pub spelled : bytes ≡ spelling_of net flow
-  pub means : MeansText n text net
+  pub serves : ServesText n text net flow
 
--- bytes that sum up a text, with n phases: they are the summary of its netlist, and the netlist means the text
+-- bytes that sum up a text, with n phases: they are the summary of its netlist, which is the text's with its flow
 pub record SumsUp (n : ℕ) (text bytes : List ℕ) : Type 0 where
   pub made : Made
   pub is_made : synth_of n text ≡ Ok made
   pub summed : bytes ≡ summary_of made
-  pub means : MeansText n text made.net
+  pub serves : ServesText n text made.net made.flow
 
 -- what the bytes of a command's output mean
 abbrev pub IsMeant : Command → List ℕ → List ℕ → Type 0

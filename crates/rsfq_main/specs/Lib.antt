@@ -1,5 +1,4 @@
 pub mod Words
-pub mod Spelling
 pub mod Summary
 pub mod Notes
 pub mod Faults

@@ -1,7 +1,7 @@
 -- The summary of a netlist: eight lines of a word and a number.
 use Rattle.std.specs.Prelude.{ℕ, List, ◌++◌, length, codes, decimal}
 use Rattle.synth.specs.declared.made.Made.{Made}
-use Rattle.rsfq_main.specs.Spelling.{spelling_of}
+use Rattle.netlist_text.specs.Spelling.{spelling_of}
 
 -- a line of a word and a number
 abbrev pub count_line : List ℕ → ℕ → List ℕ

@@ -8,19 +8,20 @@
 //!
 //! Promised by `run`: the bytes that it writes are those of the command's output, whole on Done and a proper front of them
 //! on WriteFault (`written`); on Done those of `map` spell a valid netlist with the design's names, on which for every
-//! list of input rows the value read at each output is the value of the text's tables (`meant`); right words, an accepted
-//! text and no counted fault or stall give Done, or NoMemory (`complete`). Each status has its cause (`usage`,
+//! list of input rows the value read at each output is the value of the text's tables, and whose gates, at their phases, need
+//! no fewer DROs at any epochs, as the flow lines show (`meant`); right words, an accepted text and no counted fault or stall
+//! give Done, or NoMemory (`complete`). Each status has its cause (`usage`,
 //! `refused`, `no`, `asked`, `write_fault`; of a failed read `source`), and leaves the source (`source`, `unread`), the
 //! sink (`unwritten`, `appended`, `sink_counts`) and the notes (`silent`, `noted`, `notes_counts`) as it says. Private
-//! steps: `command_of` (`command`, `in_range`) and the law `words_spell_numbers`, `note_of`, `spelling_of`, `summary_of`,
+//! steps: `command_of` (`command`, `in_range`) and the law `words_spell_numbers`, `note_of`, `summary_of`,
 //! each with its one result.
 //! Only tested, by runs of the program: that memory suffices where it is ample, and `main`'s own lines.
-//! Not promised: that no fewer DROs would do, since the gates have their earliest epochs; that two netlists never have the
-//! same text; the depth of the stack, and time.
+//! Not promised: that other gates or other phases wouldn't need fewer DROs; the depth of the stack, and time. That two netlists
+//! never have the same text is a law of `netlist_text`.
 //!
 //! Read `specs/Run.antt` and `specs/Commands.antt`, then `specs/Words.antt` (the words), `specs/Notes.antt` (the notes),
-//! `specs/Spelling.antt` and `specs/Summary.antt` (the outputs); what a netlist is and means stands in `synth`. The central
-//! idea: the meaning is `synth`'s, and is handed on; a refusal's note is made with it (`proofs/Refusals.antt`), so that nothing
+//! `specs/Summary.antt` (the summary); what a netlist is and means stands in `synth`, and how it is spelled in `netlist_text`. The
+//! central idea: the meaning is `synth`'s, and is handed on; a refusal's note is made with it (`proofs/Refusals.antt`), so that nothing
 //! is left that may fail once the first byte is written.
 #![tactic(auto)]
 
@@ -31,7 +32,6 @@ mod keys;
 mod map;
 mod notes;
 mod run;
-mod spelling;
 mod status;
 mod summary;
 mod words;

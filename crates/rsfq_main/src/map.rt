@@ -2,14 +2,13 @@
 
 ghost use Rattle.std.specs.Prelude.{◌≤◌};
 ghost use Rattle.phase_rule.specs.declared.level.TheConstants.{MAX_PHASES};
-ghost use Rattle.synth.specs.Meaning.{MeansText};
-ghost use Rattle.rsfq_main.specs.Commands.{netlist_for as what_becomes_of, netlist_text, SpellsMeaning};
+ghost use Rattle.rsfq_main.specs.Commands.{netlist_for as what_becomes_of, netlist_text, ServesText, SpellsMeaning};
 ghost use Rattle.rsfq_main.specs.Outcomes.{Answers};
 
 use crate::fault::{Fault, refused};
-use crate::spelling::spelling_of;
 use blif_read::MAX_TEXT_BYTES;
 use net_base::List;
+use netlist_text::write;
 use std::alloc::Global;
 use synth::{Made, synth};
 
@@ -18,7 +17,7 @@ use synth::{Made, synth};
 pub fn netlist_for(alloc: Global, text: &[u8], n: u32) -> Result<Made, Fault>
     requires some { 1 ≤ n }
     requires few { n ≤ MAX_PHASES }
-    ensures { Answers (what_becomes_of n text.now) (λ made. MeansText n text.now made.net) result }
+    ensures { Answers (what_becomes_of n text.now) (λ made. ServesText n text.now made.net made.flow) result }
 {
     if text.len() > MAX_TEXT_BYTES {
         return Err(Fault::TooLong);
@@ -36,7 +35,7 @@ pub fn map(alloc: Global, text: &[u8], n: u32) -> Result<List<u8>, Fault>
     ensures { Answers (netlist_text n text.now) (SpellsMeaning n text.now) result }
 {
     match netlist_for(alloc, text, n) {
-        Ok(made) => match spelling_of(alloc, &made.net, &made.flow) {
+        Ok(made) => match write(alloc, &made.net, &made.flow) {
             Ok(bytes) => Ok(List::from_vec(bytes)),
             Err(_) => Err(Fault::NoMemory),
         },

@@ -1,12 +1,12 @@
 //! The writer of a netlist's summary.
 
 ghost use Rattle.std.specs.Prelude.{◌≡◌, ◌++◌, length, IfOk, OnOk, codes};
-ghost use Rattle.rsfq_main.specs.Spelling.{spelling_of as text_of};
+ghost use Rattle.netlist_text.specs.Spelling.{spelling_of as text_of};
 ghost use Rattle.rsfq_main.specs.Summary as text;
 
-use crate::spelling::spelling_of;
 use itoa::Buffer;
 use net_base::{List, NoMemory};
+use netlist_text::write;
 use std::alloc::Global;
 use synth::Made;
 
@@ -46,7 +46,7 @@ fn push_sizes(out: &mut Vec<u8>, made: &Made, bytes: usize) -> Result<(), NoMemo
 pub fn summary_of(alloc: Global, made: &Made) -> Result<List<u8>, NoMemory>
     ensures { IfOk result (λ bytes. bytes ≡ text.summary_of made.now) }
 {
-    let bytes = spelling_of(alloc, &made.net, &made.flow)?.len();
+    let bytes = write(alloc, &made.net, &made.flow)?.len();
     let mut out = Vec::new(alloc);
     push_parts(&mut out, made)?;
     push_sizes(&mut out, made, bytes)?;

@@ -17,7 +17,7 @@ use Rattle.synth.specs.declared.fault.SynthFault.{SynthFault}
 use Rattle.synth.specs.declared.fault.SynthFault.TheVariants.{Blif, TooManyNodes, TooManyDros, NoMemory}
 use Rattle.synth.specs.declared.made.Made.{Made}
 use Rattle.synth.specs.declared.made.TheConstants.{MAX_GATES}
-use Rattle.synth.specs.Clocking.{clocks}
+use Rattle.synth.specs.Clocking.{clocks, clock_flow}
 use Rattle.synth.specs.Meaning.{names_of}
 use Rattle.synth.specs.Synth.{refused_as, order_fault, reads, orders, within_nodes, within_gates, ordered_in, covers, chains_within, nets_within, made_of, synth_of}
 use Rattle.synth.specs.Laws.{RefusalsHaveCauses}
@@ -66,15 +66,15 @@ pub refusals_have_causes : RefusalsHaveCauses
 unfolding synth_of
 refusals_have_causes n text =
     bind-cause (ordered_in text)
-    (λ (ordered : Ordered). within_nodes (subject_of ordered) >>= λ subject. covers subject >>= λ gates. nets_within n ordered.design gates >>= λ net. Ok (made_of ordered.design subject net))
+    (λ (ordered : Ordered). within_nodes (subject_of ordered) >>= λ subject. covers subject >>= λ gates. nets_within n ordered.design gates >>= λ net. Ok (made_of ordered.design subject net (clock_flow n gates)))
     (bind-cause (reads text) orders (refused_as-cause Blif (design_of text) (λ fault. λ same. absurd cc)) orders-cause)
     (λ ordered.
     bind-cause (within_nodes (subject_of ordered))
-    (λ (subject : Subject). covers subject >>= λ gates. nets_within n ordered.design gates >>= λ net. Ok (made_of ordered.design subject net))
+    (λ (subject : Subject). covers subject >>= λ gates. nets_within n ordered.design gates >>= λ net. Ok (made_of ordered.design subject net (clock_flow n gates)))
     (nodes-cause (subject_of ordered))
     (λ subject.
-    bind-cause (covers subject) (λ (gates : GateNet). nets_within n ordered.design gates >>= λ net. Ok (made_of ordered.design subject net))
+    bind-cause (covers subject) (λ (gates : GateNet). nets_within n ordered.design gates >>= λ net. Ok (made_of ordered.design subject net (clock_flow n gates)))
     (gates-cause (cover_of MAX_GATES subject))
     (λ gates.
-    bind-cause (nets_within n ordered.design gates) (λ (net : PulseNet). Ok (made_of ordered.design subject net))
+    bind-cause (nets_within n ordered.design gates) (λ (net : PulseNet). Ok (made_of ordered.design subject net (clock_flow n gates)))
     (nets-cause n ordered.design gates) (λ net. λ same. absurd cc))))

@@ -1,5 +1,5 @@
 -- Synthesis: what becomes of a text with n phases, layer by layer, or what the first layer that refuses it says.
-use Rattle.std.specs.Prelude.{ℕ, List, [], length, cond, nat_lt, Option, Some, None, Result, Ok, Err}
+use Rattle.std.specs.Prelude.{ℕ, List, length, cond, nat_lt, Option, Some, None, Result, Ok, Err}
 use Rattle.net_base.specs.Answers.{◌>>=◌}
 use Rattle.net_base.specs.declared.graph.Subject.{Subject}
 use Rattle.net_base.specs.declared.graph.TheConstants.{MAX_NODES}
@@ -19,7 +19,7 @@ use Rattle.synth.specs.declared.fault.SynthFault.{SynthFault}
 use Rattle.synth.specs.declared.fault.SynthFault.TheVariants.{Blif, DuplicateDriver, Undriven, Cycle, TooManyNodes, TooManyGates, TooManyDros, NoMemory}
 use Rattle.synth.specs.declared.made.Made.{Made}
 use Rattle.synth.specs.declared.made.TheConstants.{MAX_GATES}
-use Rattle.synth.specs.Clocking.{clocks}
+use Rattle.synth.specs.Clocking.{clocks, clock_flow}
 use Rattle.synth.specs.Counts.{is_gate, is_split, element_junctions, counted}
 use Rattle.synth.specs.Meaning.{names_of}
 
@@ -51,15 +51,11 @@ abbrev pub within_gates : Option GateNet → Result GateNet SynthFault
 within_gates None = Err TooManyGates
 within_gates (Some gates) = Ok gates
 
--- the flow of no pins
-abbrev pub no_flow : Flow
-no_flow = record { pins = [] }
-
--- a netlist, with the numbers of what it is made of and of what it was made from
-abbrev pub made_of : Design → Subject → PulseNet → Made
-made_of design subject net = record {
+-- a netlist and a flow, with the numbers of what the netlist is made of and of what it was made from
+abbrev pub made_of : Design → Subject → PulseNet → Flow → Made
+made_of design subject net flow = record {
   net = net;
-  flow = no_flow;
+  flow = flow;
   tables = length design.tables;
   nodes = length subject.graph.nodes;
   gates = counted is_gate net.elements;
@@ -84,15 +80,15 @@ chains_within n gates = refused_as TooManyDros (clocks n gates)
 abbrev pub nets_within : ℕ → Design → GateNet → Result PulseNet SynthFault
 nets_within n design gates = chains_within n gates >>= λ chained. Ok (elements_of chained (names_of design))
 
--- What becomes of a text with n phases: the netlist of its gates with shared chains and splitter trees, or what refuses it first: a
--- line, then the whole text, then the number of nodes, of gates, of DROs.
+-- What becomes of a text with n phases: the netlist of its gates with shared chains and splitter trees, at the least optimal epochs,
+-- with the flow of the rounds, or what refuses it first: a line, then the whole text, then the number of nodes, of gates, of DROs.
 unfoldable pub synth_of : ℕ → List ℕ → Result Made SynthFault
 synth_of n text =
     ordered_in text >>= λ ordered.
     within_nodes (subject_of ordered) >>= λ subject.
     covers subject >>= λ gates.
     nets_within n ordered.design gates >>= λ net.
-    Ok (made_of ordered.design subject net)
+    Ok (made_of ordered.design subject net (clock_flow n gates))
 
 -- the answer that a fault tells; want of memory tells none
 abbrev pub told : {A : Type 0} → SynthFault → Option (Result A SynthFault)

@@ -11,7 +11,7 @@ pub const MAX_GATES: u32 = 1_048_576;
 pub struct Made {
     /// The netlist.
     pub net: PulseNet,
-    /// The flow, of no pins so far.
+    /// The flow of the rounds on the network of its gates, which shows that it needs the fewest DROs.
     pub flow: Flow,
     /// The tables of the design.
     pub tables: u32,
