@@ -1,5 +1,5 @@
 -- Offers that are added one lot after another, and the labels that they are worked out from, which numbers hold.
-use Rattle.std.proofs.Common.{◌≡◌, ◌<◌, ◌+◌, ◌/◌, ◌%◌, ◌==◌, ◌∙◌, ◌++◌, ℕ, ℤ, pos, negsuc, ◌≤ℤ◌, Bool, true, false, cond, List, [], ◌∷◌, length, get_or, take, map, filter, Contains, refl, ap, sym, subst, arith, append_assoc}
+use Rattle.std.proofs.Common.{◌≡◌, ◌<◌, ◌+◌, ◌/◌, ◌%◌, ◌==◌, ◌&&◌, ◌∙◌, ◌++◌, ℕ, ℤ, pos, negsuc, ◌≤ℤ◌, Bool, true, false, not, cond, List, [], ◌∷◌, length, get_or, take, map, filter, Contains, refl, ap, sym, subst, arith}
 use Rattle.std.specs.List.{flat_map}
 use Rattle.std.specs.List.Sorted.{IsPermutation}
 use Rattle.std.proofs.lemmas.Int.{ints}
@@ -16,15 +16,11 @@ use Rattle.stage_flow.specs.Residual.{Way, adding, taking, ways_on, ways_of, ver
 use Rattle.stage_flow.specs.Longest.{Reach}
 use Rattle.stage_flow.specs.Given.{IsNetwork}
 use Rattle.stage_flow.specs.Sending.{arc_by, pin_at, arc_at, residual, ways_by}
+use Rattle.stage_flow.specs.Passes.{mark_at}
 use Rattle.stage_flow.specs.Mending.{is_open, offer_by, offers_of, AreAdded, IsOffered, AreHeld}
 use Rattle.stage_flow.proofs.SendingArcs.{arc_at-there}
 use Rattle.stage_flow.proofs.Along.{adding-in}
 use Rattle.stage_flow.proofs.ProgressNetworks.{vertices-few, ends-among, ways-short}
-
-pub added-both : (before first between second after : List Offer) → AreAdded first before between → AreAdded second between after → AreAdded (first ++ second) before after
-added-both before first between second after one two =
-    subst (λ l. IsPermutation l after) (append_assoc before first second)
-    (IsPermutation-trans ((before ++ first) ++ second) (between ++ second) after (IsPermutation-append_left second (before ++ first) between one) two)
 
 -- what is added for one number more
 pub added-more : (offers : ℕ → List Offer) (numbers : List ℕ) (i : ℕ) (before between after : List Offer) → i < length numbers → AreAdded (flat_map offers (take i numbers)) before between → AreAdded (offers (get_or numbers i 0)) between after → AreAdded (flat_map offers (take (i + 1) numbers)) before after
@@ -37,6 +33,11 @@ added-more offers numbers i before between after within one two =
 pub offers_of-append : (labels : ℕ → Reach) (stale : List Bool) (a b : List Way) → offers_of labels stale (a ++ b) ≡ offers_of labels stale a ++ offers_of labels stale b
 offers_of-append labels stale a b =
     ap (map (offer_by labels labels)) (filter-append (is_open stale) a b) ∙ map-append (offer_by labels labels) (filter (is_open stale) a) (filter (is_open stale) b)
+
+-- A residual arc from a vertex that isn't stale offers nothing.
+pub offers_of-closed : (labels : ℕ → Reach) (stale : List Bool) (way : Way) (ways : List Way) → mark_at stale way.tail ≡ false → offers_of labels stale (way ∷ ways) ≡ offers_of labels stale ways
+offers_of-closed labels stale way ways fresh =
+    ap (λ b. map (offer_by labels labels) (cond (b && not (mark_at stale way.head)) (way ∷ filter (is_open stale) ways) (filter (is_open stale) ways))) fresh
 
 -- the offers of the residual arcs on an arc
 abbrev pub offers_over : Net → Flow → (ℕ → Reach) → List Bool → ℕ → List Offer

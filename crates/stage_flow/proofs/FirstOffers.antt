@@ -26,7 +26,7 @@ pub gain-greatest : (first : Offer) (offers : List Offer) → IsUpperBound offer
 gain-greatest first [] most = All-nil (λ (offer : Offer). offer.gain ≤ℤ first.gain)
 gain-greatest first (offer ∷ offers) most =
     All-cons (λ (other : Offer). other.gain ≤ℤ first.gain) offer offers
-    (not_less-at_most first.gain offer.gain (first-not_less (int_cmp first.gain offer.gain) (ordering_then (nat_cmp first.vertex offer.vertex) (ordering_then (int_cmp first.far offer.far) (nat_cmp first.hops offer.hops))) most.0))
+    (not_less-at_most first.gain offer.gain (first-not_less (int_cmp first.gain offer.gain) (ordering_then (int_cmp first.far offer.far) (ordering_then (nat_cmp first.hops offer.hops) (nat_cmp first.vertex offer.vertex))) most.0))
     (gain-greatest first offers most.1)
 
 -- of offers those to stale vertices are left, and no others come

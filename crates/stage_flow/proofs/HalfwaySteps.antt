@@ -197,6 +197,14 @@ stale_count-cleared (false ∷ marks) zero is = absurd (cc)
 stale_count-cleared (true ∷ marks) (suc vertex) is = ap suc (stale_count-cleared marks vertex is)
 stale_count-cleared (false ∷ marks) (suc vertex) is = stale_count-cleared marks vertex is
 
+-- What is marked still was before.
+pub marked-before : (marks : List Bool) (cleared vertex : ℕ) → mark_at (set marks cleared false) vertex ≡ true → mark_at marks vertex ≡ true
+marked-before [] cleared vertex is = is
+marked-before (mark ∷ marks) zero zero is = absurd (cc)
+marked-before (mark ∷ marks) zero (suc vertex) is = is
+marked-before (mark ∷ marks) (suc cleared) zero is = is
+marked-before (mark ∷ marks) (suc cleared) (suc vertex) is = marked-before marks cleared vertex is
+
 -- ---- There are right labels
 -- Old labels fit, so their lengths, negated, are potentials that fit.
 pub right-exist : (net : Net) (flow : Flow) (far : ℕ → ℤ) (hops : ℕ → ℕ) (stale : List Bool) → IsNetwork net → IsPartFlow net flow → SomeMirrorWants net flow → AreRightOutside net flow far hops stale → (lengths : ℕ → ℤ) × (counts : ℕ → ℕ) × AreLabels net flow lengths counts

@@ -71,6 +71,7 @@ mod OldLabels
 mod FirstOffers
 mod QueuedOffers
 mod AddedOffers
+mod AheadVertices
 mod OpenArcs
 mod FirstLabels
 mod Halfway

@@ -1,12 +1,12 @@
 -- The epochs read off the flow of the rounds are the least optimal ones. Labels from the source exist, a longest walk attains each of
 -- them at gates and sink, and so the epochs by these labels are the epochs by the lengths of longest walks.
-use Rattle.std.proofs.Common.{◌≡◌, ◌≢◌, ◌<◌, ◌≤◌, ◌+◌, ◌==◌, ◌∙◌, ℕ, zero, suc, ℤ, pos, ◌-ℤ◌, true, false, cond, List, [], ◌∷◌, length, map, refl, sym, ap, subst, arith, ⊎_elim}
+use Rattle.std.proofs.Common.{◌≡◌, ◌≢◌, ◌<◌, ◌≤◌, ◌+◌, ◌==◌, ◌∙◌, ℕ, zero, suc, ℤ, ◌-ℤ◌, true, false, List, [], ◌∷◌, length, map, refl, sym, ap, subst, arith, ⊎_elim}
 use Rattle.std.specs.List.{range_with_len}
 use Rattle.std.proofs.lemmas.Bool.{cases_lt, ne_eqb}
 use Rattle.std.proofs.lemmas.Int.{ints}
 use Rattle.std.proofs.lemmas.List.FromFn.{length-map-range_with_len}
 use Rattle.gate_net.specs.declared.net.GateNet.{GateNet}
-use Rattle.gate_net.specs.Net.{IsGateNet, EachGateIsUsed}
+use Rattle.gate_net.specs.Net.{IsGateNet}
 use Rattle.flow_net.specs.declared.uses.Use.{Use}
 use Rattle.flow_net.specs.declared.net.Net.{Net}
 use Rattle.flow_net.specs.declared.net.Flow.{Flow}
@@ -20,7 +20,7 @@ use Rattle.stage_flow.specs.Rounds.{rounds_of}
 use Rattle.stage_flow.specs.LeastEpochs.{AreLeastEpochs}
 use Rattle.stage_flow.specs.Given.{IsNetwork}
 use Rattle.stage_flow.specs.LawsOfEpochs.{AreFarthest, rise_to, not_below, epochs_by}
-use Rattle.stage_flow.specs.RoundEpochs.{span, far_from_source, epochs_of_nothing, least_epochs, AreLeastOfRounds, RoundsGiveLeastEpochs}
+use Rattle.stage_flow.specs.RoundEpochs.{span, far_from_source, least_epochs, AreLeastOfRounds, RoundsGiveLeastEpochs}
 use Rattle.stage_flow.proofs.LeastLengths.{potential_of, optimal-fits, labels-least, farthest-few}
 use Rattle.stage_flow.proofs.SourceLabels.{labels-are_farthest}
 use Rattle.stage_flow.proofs.SourceLabelsExist.{source_labels-exist}

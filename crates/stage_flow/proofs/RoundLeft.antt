@@ -1,6 +1,6 @@
 -- What a round leaves of labels. A residual arc is lost only where it took a unit back and the path took it too, so its tail is on the
 -- path; every other vertex keeps its tight arc. Of who wants, the receiver alone changes: it wants no more.
-use Rattle.std.proofs.Common.{◌≡◌, ◌≢◌, ◌<◌, ◌≤◌, ◌+◌, ◌==◌, ◌&&◌, ◌/◌, ◌^◌, ◌∙◌, ◌++◌, ◌⊎◌, ◌+ℤ◌, ◌-ℤ◌, ◌≤ℤ◌, inl, inr, ℕ, ℤ, suc, pos, nat_lt, nat_le, int_lt, Bool, true, false, not, cond, List, [], ◌∷◌, length, All, Any, Contains, Some, refl, ap, sym, subst, arith, true≢false, ⊎_elim}
+use Rattle.std.proofs.Common.{◌≡◌, ◌<◌, ◌≤◌, ◌+◌, ◌==◌, ◌&&◌, ◌/◌, ◌^◌, ◌∙◌, ◌++◌, ◌⊎◌, ◌+ℤ◌, ◌-ℤ◌, ◌≤ℤ◌, inl, inr, ℕ, ℤ, suc, pos, nat_lt, nat_le, int_lt, Bool, true, false, not, cond, List, [], ◌∷◌, length, All, Contains, Some, refl, ap, sym, subst, arith, true≢false, ⊎_elim}
 use Rattle.std.proofs.lemmas.Bool.{cases_eq, cases_lt, eqb-true, eq-eqb, ne_eqb, leb-true, and_parts}
 use Rattle.std.proofs.lemmas.Bool.Decides.{nat_tests}
 use Rattle.std.proofs.lemmas.Int.{ints}
@@ -9,15 +9,15 @@ use Rattle.flow_net.specs.declared.net.Net.{Net}
 use Rattle.flow_net.specs.declared.net.Flow.{Flow}
 use Rattle.flow_net.specs.Arcs.{Arc, arcs_of}
 use Rattle.flow_net.specs.Flows.{units_on, out_minus_in, wants as wanted_of}
-use Rattle.stage_flow.specs.Residual.{Way, adding, taking, ways_of, vertex_count}
+use Rattle.stage_flow.specs.Residual.{Way, taking, ways_of, vertex_count}
 use Rattle.stage_flow.specs.Longest.{Reach}
 use Rattle.stage_flow.specs.Rounds.{sender, is_wanting, path_of, moved, along, sent_along, after_round}
-use Rattle.stage_flow.specs.LawsOfWalks.{IsWalk, IsTight, AreLabels, HasUnits, IsRound, unit_at, label}
+use Rattle.stage_flow.specs.LawsOfWalks.{IsWalk, AreLabels, HasUnits, IsRound, unit_at}
 use Rattle.stage_flow.specs.LawsOfSending.{IsPartFlow}
 use Rattle.stage_flow.specs.Given.{IsNetwork}
 use Rattle.stage_flow.specs.Mending.{IsSound, AreRightOutside}
 use Rattle.stage_flow.specs.Passes.{mark_at}
-use Rattle.stage_flow.specs.Staleness.{SayWhoWaits, AreSpread, end_of, AreLeftByRound, tails_on, NoneIsMarked}
+use Rattle.stage_flow.specs.Staleness.{AreSpread, end_of, AreLeftByRound, tails_on, NoneIsMarked}
 use Rattle.stage_flow.proofs.Labels.{IsLow, tight-nearer, labels-for, wanting-low, hops-below}
 use Rattle.stage_flow.proofs.LabelBounds.{far-within_hops}
 use Rattle.stage_flow.proofs.Units.{arc-same, arc-low, units_on-along, units_on-others}

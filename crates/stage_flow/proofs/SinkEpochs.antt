@@ -1,6 +1,6 @@
 -- The sink is an epoch behind the source at least. The last driver has a pin, which leads upwards, so to the sink; and as the sink has
 -- phase 0, which is greater than no phase, that pin weighs 1.
-use Rattle.std.proofs.Common.{◌≡◌, ◌<◌, ◌≤◌, ◌+◌, ◌-◌, ◌∙◌, ℕ, suc, nat_lt, false, cond, List, length, get_or, map, All, true, ap, arith, ⊎_elim}
+use Rattle.std.proofs.Common.{◌≡◌, ◌<◌, ◌≤◌, ◌+◌, ◌-◌, ◌∙◌, ℕ, suc, nat_lt, false, cond, List, length, get_or, All, true, ap, arith, ⊎_elim}
 use Rattle.std.proofs.lemmas.Bool.{cases_lt, lt-ltb, le-ltb}
 use Rattle.std.proofs.lemmas.List.{get_or_past}
 use Rattle.std.proofs.lemmas.List.Elements.{All-map}
@@ -16,7 +16,7 @@ use Rattle.flow_net.specs.Uses.{uses_of}
 use Rattle.flow_net.specs.Network.{vertex_phase, pin_of, network_of}
 use Rattle.flow_net.specs.Epochs.{epoch_at, IsBalanced}
 use Rattle.flow_net.proofs.CallerLemmas.{home}
-use Rattle.stage_flow.proofs.Linked.{IsLinked, networks-linked}
+use Rattle.stage_flow.proofs.Linked.{networks-linked}
 
 -- A pin of the sink weighs 1.
 abbrev Weighs : Net → Pin → Type 0

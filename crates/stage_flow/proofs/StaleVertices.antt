@@ -1,11 +1,11 @@
 -- Which labels a round leaves stale. A vertex that is found stale is marked, and the tails of the tight arcs into it are looked at again;
 -- every other vertex keeps the arc that made it sound. At the end nobody is left to be looked at, so who isn't marked is sound.
-use Rattle.std.proofs.Common.{◌≡◌, ◌≢◌, ◌<◌, ◌+◌, ◌==◌, ◌&&◌, ◌∙◌, ◌++◌, ◌⊎◌, inl, inr, ℕ, zero, suc, ℤ, nat_eq, Bool, true, false, not, cond, List, [], ◌∷◌, length, get_or, map, filter, drop, All, Any, Contains, Option, Some, None, refl, ap, sym, subst, arith, true≢false, ⊎_elim, append_assoc}
+use Rattle.std.proofs.Common.{◌≡◌, ◌≢◌, ◌<◌, ◌+◌, ◌==◌, ◌∙◌, ◌++◌, ◌⊎◌, inl, inr, ℕ, zero, suc, ℤ, Bool, true, false, cond, List, [], ◌∷◌, length, get_or, map, filter, drop, All, Any, Contains, Option, Some, None, refl, ap, sym, subst, arith, true≢false, ⊎_elim, append_assoc}
 use Rattle.std.specs.Prelude.{slice_set, slice_index}
 use Rattle.std.specs.List.{flat_map, sum_by}
 use Rattle.std.proofs.lemmas.List.Sums.{sum_by-set}
 use Rattle.std.proofs.Math.Seq.{drop-cons}
-use Rattle.std.proofs.lemmas.Bool.{eqb-true, eq-eqb, ne_eqb, and_parts, and_from}
+use Rattle.std.proofs.lemmas.Bool.{eqb-true, eq-eqb, and_from}
 use Rattle.std.proofs.lemmas.List.{get_or-set_same, get_or-set_other, length-set, map-append}
 use Rattle.std.proofs.lemmas.List.Elements.{All-append, All-nil, All-cons, All-filter, All-map, All-contains, All-weaker, All-contains_itself, filter-append, Contains-append_left, Contains-append_right, Contains-append_cases}
 use Rattle.flow_net.specs.declared.net.Net.{Net}
@@ -14,10 +14,10 @@ use Rattle.flow_net.specs.Flows.{pin_units, units_on}
 use Rattle.stage_flow.specs.Residual.{Way, adding, taking, ways_on, ways_of, vertex_count}
 use Rattle.stage_flow.specs.Rounds.{is_wanting}
 use Rattle.stage_flow.specs.LawsOfWalks.{IsTight, EndsAreVertices}
-use Rattle.stage_flow.specs.Sending.{arc_by, pin_at, arc_at, residual, ways_by, is_tight}
+use Rattle.stage_flow.specs.Sending.{arc_at, residual, ways_by, is_tight}
 use Rattle.stage_flow.specs.Given.{numbers_at}
 use Rattle.stage_flow.specs.Passes.{mark_at}
-use Rattle.stage_flow.specs.Mending.{IsSound, AreMarked}
+use Rattle.stage_flow.specs.Mending.{IsSound}
 use Rattle.stage_flow.specs.Staleness.{LeadsAway, leads_to, tails_of, AreSpread}
 use Rattle.stage_flow.proofs.Labels.{IsLow}
 use Rattle.stage_flow.proofs.Along.{adding-there, taking-there}

@@ -1,5 +1,5 @@
 -- Labels that are right but at some vertices, the stale ones, and how those are put right.
-use Rattle.std.specs.Prelude.{◌≡◌, ◌<◌, ◌⊎◌, ◌+◌, ◌&&◌, ◌≤ℤ◌, ◌^◌, ◌+ℤ◌, ◌-ℤ◌, ◌*ℤ◌, ℕ, ℤ, pos, Bool, true, false, not, List, ◌∷◌, ◌++◌, length, map, filter, All, Any, Contains, IsPermutation}
+use Rattle.std.specs.Prelude.{◌≡◌, ◌<◌, ◌⊎◌, ◌+◌, ◌&&◌, ◌≤ℤ◌, ◌^◌, ◌+ℤ◌, ◌-ℤ◌, ◌*ℤ◌, ℕ, ℤ, pos, Bool, true, false, not, List, ◌∷◌, ◌++◌, length, map, filter, drop, All, Any, Contains, IsPermutation}
 use Rattle.std.specs.declared.cmp.Ordering.{Ordering}
 use Rattle.std.specs.Ordering.{int_cmp, nat_cmp, ordering_then}
 use Rattle.flow_net.specs.declared.net.Net.{Net}
@@ -37,15 +37,19 @@ pub record AreMarked (net : Net) (marks : List Bool) (vertices : List ℕ) : Typ
   pub low : All (λ vertex. vertex < vertex_count net) vertices
   pub all : (vertex : ℕ) → mark_at marks vertex ≡ true → Contains vertices vertex
 
+-- the marked vertices stand in a list, from a place on
+abbrev pub AreAhead : List Bool → List ℕ → ℕ → Type 0
+AreAhead marks vertices place = (vertex : ℕ) → mark_at marks vertex ≡ true → Contains (drop place vertices) vertex
+
 -- ---- Offers
 -- the order of offers: by what they gain, and then by their other parts
 abbrev pub offer_order : Offer → Offer → Ordering
-offer_order a b = ordering_then (int_cmp a.gain b.gain) (ordering_then (nat_cmp a.vertex b.vertex) (ordering_then (int_cmp a.far b.far) (nat_cmp a.hops b.hops)))
+offer_order a b = ordering_then (int_cmp a.gain b.gain) (ordering_then (int_cmp a.far b.far) (ordering_then (nat_cmp a.hops b.hops) (nat_cmp a.vertex b.vertex)))
 
 -- what a residual arc offers to its tail, given old labels and those that lead on: the label by it, and how much less that costs than the
 -- old one
 abbrev pub offer_by : (ℕ → Reach) → (ℕ → Reach) → Way → Offer
-offer_by old right way = record { gain = cost (old way.tail) -ℤ cost (led_by way (right way.head)); vertex = way.tail; far = way.length +ℤ (right way.head).length; hops = (right way.head).hops + 1 }
+offer_by old right way = record { gain = cost (old way.tail) -ℤ cost (led_by way (right way.head)); far = way.length +ℤ (right way.head).length; hops = (right way.head).hops + 1; vertex = way.tail }
 
 -- a residual arc leads from a stale vertex to one that isn't
 abbrev pub is_open : List Bool → Way → Bool

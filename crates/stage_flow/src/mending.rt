@@ -4,12 +4,13 @@
 //! that isn't stale: the label by that arc. An offer rises above the vertex' old label by what it costs more. The offer that
 //! rises least is the right label of its vertex, which then isn't stale, and makes offers itself by the arcs into it.
 //! Invariant: the vertices that aren't stale have their right labels, the others their old ones, and the offer of each residual
-//! arc from a stale vertex to one that isn't is in the queue.
+//! arc from a stale vertex to one that isn't is in the queue. The search ends as soon as no vertex is stale, however many poor
+//! offers still wait.
 //!
 //! Source: Dijkstra's search, over what is left of costs once old labels are taken off (1959); shortest paths repaired where they
 //! changed alone (Ramalingam and Reps 1996). Here the old labels are kept until new ones are known, and serve as potentials.
 
-ghost use Rattle.std.specs.Prelude.{◌≡◌, ◌<◌, ◌/◌, ℕ, false, ◌∷◌, [], length, All, IfOk, OnOk, slice_set};
+ghost use Rattle.std.specs.Prelude.{◌≡◌, ◌<◌, ◌/◌, ℕ, false, ◌∷◌, [], length, All, IfOk, OnOk, IsTrue, MatchOption, slice_set};
 ghost use Rattle.std.specs.List.{flat_map};
 ghost use Rattle.stage_flow.specs.Residual.{ways_on, vertex_count};
 ghost use Rattle.stage_flow.specs.LawsOfWalks.{AreLabels};
@@ -18,7 +19,7 @@ ghost use Rattle.stage_flow.specs.Given.{IsNetwork, AreIncidences, at_vertex, co
 ghost use Rattle.stage_flow.specs.Sending.{way_of, arc_at, ways_by};
 ghost use Rattle.stage_flow.specs.Passes.{mark_at, reach_by, standing};
 ghost use Rattle.stage_flow.specs.Waiting.{waiting};
-ghost use Rattle.stage_flow.specs.Mending.{cost, offer_by, offers_of, AreAdded, IsOffered, AreHeld, AreRightOutside, AreMarked};
+ghost use Rattle.stage_flow.specs.Mending.{cost, offer_by, offers_of, AreAdded, IsFirst, NoneIsStale, IsOffered, AreHeld, AreRightOutside, AreMarked, AreAhead};
 
 use crate::incidence::Incidence;
 use crate::offers::{Offer, Queue, is_marked};
@@ -50,9 +51,9 @@ fn offer_over(far: &[i64], hops: &[u32], step: Step) -> Offer
     let count = hops[head] + 1;
     Offer {
         gain: own - cost_of(led, count),
-        vertex: step.tail,
         far: led,
         hops: count,
+        vertex: step.tail,
     }
 }
 
@@ -88,7 +89,15 @@ fn push_over(
     requires pin { number / 2 < length net.now.pins }
     ensures { OnOk result (AreAdded (offers_of (standing far.now hops.now) stale.now (ways_on flow.now (arc_at net.now number))) (waiting queue.old) (waiting queue.new)) }
 {
-    push_by(far, hops, stale, step_at(net, number, false), queue)?;
+    let step = step_at(net, number, false);
+    let leaves_stale = is_marked(stale, step.tail);
+    // Where both ends are stale, or neither, no residual arc on it leads from a stale vertex to another.
+    if leaves_stale == is_marked(stale, step.head) {
+        return Ok(());
+    }
+    if leaves_stale {
+        return push_by(far, hops, stale, step, queue);
+    }
     if units_at(flow, number) > 0 {
         push_by(far, hops, stale, step_at(net, number, true), queue)?;
     }
@@ -141,6 +150,38 @@ fn push_all(
     Ok(())
 }
 
+// Whether none of these vertices is stale. Those before the place `seen` aren't, and the place moves on past others.
+fn are_settled(stale: &[bool], vertices: &[u32], seen: &mut usize) -> bool
+    requires { AreAhead stale.now vertices.now seen.old }
+    ensures ahead { AreAhead stale.now vertices.now seen.new }
+    ensures none { IsTrue result → ((vertex : ℕ) → mark_at stale.now vertex ≡ false) }
+{
+    while *seen < vertices.len() {
+        if is_marked(stale, vertices[*seen]) {
+            return false;
+        }
+        *seen += 1;
+    }
+    true
+}
+
+// The next offer, while one of these vertices is stale. Once none is, what still waits needn't be put in order any more.
+fn next_offer(
+    stale: &[bool],
+    vertices: &[u32],
+    seen: &mut usize,
+    queue: &mut Queue,
+) -> Option<Offer>
+    requires { AreAhead stale.now vertices.now seen.old }
+    ensures first { MatchOption result (NoneIsStale stale.now (waiting queue.old)) (λ offer. IsFirst stale.now (waiting queue.old) offer (waiting queue.new)) }
+    ensures ahead { AreAhead stale.now vertices.now seen.new }
+{
+    if are_settled(stale, vertices, seen) {
+        return None;
+    }
+    queue.next(stale)
+}
+
 // A stale vertex takes an offer, and isn't stale any more.
 fn accept(far: &mut [i64], hops: &mut [u32], stale: &mut [bool], offer: Offer)
     requires far { offer.vertex < length far.old }
@@ -182,7 +223,8 @@ fn put_right(
     push_all(net, incidence, flow, labels, stale, vertices, queue)?;
     let mut far = mem::replace(&mut labels.far, List::new(queue.alloc)).into_vec();
     let mut hops = mem::replace(&mut labels.hops, List::new(queue.alloc)).into_vec();
-    while let Some(offer) = queue.next(stale) {
+    let mut seen = 0;
+    while let Some(offer) = next_offer(stale, vertices, &mut seen, queue) {
         let vertex = offer.vertex;
         accept(far.as_mut_slice(), hops.as_mut_slice(), stale, offer);
         push_from(

@@ -2,7 +2,10 @@
 //!
 //! A vertex gets an offer by each residual arc from it to a vertex that isn't stale. Once it has taken one it isn't stale, and
 //! what else was offered to it is let go when its turn comes. By an arc that is tight for the old labels an offer gains as much as
-//! the one that was taken last, and most arcs are. So these offers wait in a plain list, and only the others in a heap.
+//! the one that was taken last, and most arcs are. So these offers wait in a plain list, and only the others in a heap: to add an
+//! offer takes one step, or as many as the logarithm of those that wait, and so does to take one. Where labels rise in many
+//! different ways this doesn't change. Most offers in the heap are poor ones that are never taken, and aren't put in order either,
+//! since `mending` asks for no further offer once no vertex is stale.
 
 ghost use Rattle.std.specs.Prelude.{◌≡◌, [], ◌∷◌, All, MatchOption, OnOk};
 ghost use Rattle.std.specs.BinaryHeap.{IsHeap, heap_items};
@@ -19,12 +22,12 @@ use std::collections::BinaryHeap;
 pub(crate) struct Offer {
     /// How much less the label costs than the vertex' old one. No offer gains more than nothing.
     pub gain: i128,
-    /// The vertex.
-    pub vertex: u32,
     /// The length of the label that is offered.
     pub far: i64,
     /// Its number of arcs.
     pub hops: u32,
+    /// The vertex.
+    pub vertex: u32,
 }
 
 /// Offers that wait.

@@ -15,6 +15,7 @@ ghost use Rattle.stage_flow.specs.Mending.{IsSound, AreMarked};
 ghost use Rattle.stage_flow.specs.Staleness.{SayWhoWaits, LeadsAway, leads_to, tails_of, AreSpread};
 
 use crate::incidence::Incidence;
+use crate::offers::is_marked;
 use crate::search::Labels;
 use crate::ways::{Step, is_tight, step_at, units_at};
 use flow_net::{Flow, Net};
@@ -44,8 +45,14 @@ fn leads_away_over(
     requires pin { number / 2 < length net.now.pins }
     ensures { IsTrue result → Any (LeadsAway (at_vertex labels.now.far) (count_at labels.now.hops) marks.now vertex) (ways_on flow.now (arc_at net.now number)) }
 {
-    if leads_away(labels, marks, vertex, step_at(net, number, false)) {
-        return true;
+    let step = step_at(net, number, false);
+    // Where the arc itself leaves the vertex, its reverse enters it, and units needn't be read.
+    if step.tail == vertex {
+        return leads_away(labels, marks, vertex, step);
+    }
+    // Nor where its reverse leads to a vertex that is marked.
+    if is_marked(marks, step.tail) {
+        return false;
     }
     units_at(flow, number) > 0 && leads_away(labels, marks, vertex, step_at(net, number, true))
 }
@@ -186,7 +193,12 @@ fn push_tails_over(
     requires pin { number / 2 < length net.now.pins }
     ensures { OnOk result (pending.new.items ≡ pending.old.items ++ tails_of (at_vertex labels.now.far) (count_at labels.now.hops) vertex (ways_on flow.now (arc_at net.now number))) }
 {
-    push_tail(labels, vertex, step_at(net, number, false), pending)?;
+    let step = step_at(net, number, false);
+    push_tail(labels, vertex, step, pending)?;
+    // A reverse enters the tail. Where that is another vertex, units needn't be read.
+    if step.tail != vertex {
+        return Ok(());
+    }
     if units_at(flow, number) > 0 {
         push_tail(labels, vertex, step_at(net, number, true), pending)?;
     }

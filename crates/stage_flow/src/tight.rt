@@ -53,7 +53,12 @@ fn reach_over(
     requires pin { number / 2 < length net.now.pins }
     ensures { OnOk result (reached.new.keys ≡ insert_all nat_eq reached.old.keys (heads_of (at_vertex labels.now.far) (count_at labels.now.hops) vertex (ways_on flow.now (arc_at net.now number)))) }
 {
-    reach_by(labels, vertex, step_at(net, number, false), reached)?;
+    let step = step_at(net, number, false);
+    reach_by(labels, vertex, step, reached)?;
+    // A reverse leaves the head. Where that is another vertex, units needn't be read.
+    if step.head != vertex {
+        return Ok(());
+    }
     if units_at(flow, number) > 0 {
         reach_by(labels, vertex, step_at(net, number, true), reached)?;
     }
@@ -144,7 +149,12 @@ fn least_over(
     requires pin { number / 2 < length net.now.pins }
     ensures { option_map way_of result ≡ least_by (comes_last (at_vertex labels.now.far) (count_at labels.now.hops) reached.now.keys vertex) (option_map way_of found) (ways_on flow.now (arc_at net.now number)) }
 {
-    let found = lesser_by(labels, reached, vertex, step_at(net, number, false), found);
+    let step = step_at(net, number, false);
+    let found = lesser_by(labels, reached, vertex, step, found);
+    // A reverse enters the tail. Where that is another vertex, units needn't be read.
+    if step.tail != vertex {
+        return found;
+    }
     if units_at(flow, number) > 0 {
         lesser_by(labels, reached, vertex, step_at(net, number, true), found)
     } else {

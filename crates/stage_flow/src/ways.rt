@@ -105,9 +105,13 @@ pub(crate) fn is_tight(labels: &Labels, step: Step) -> bool
     requires hops { (step.tail < length labels.now.hops) × (step.head < length labels.now.hops) }
     ensures { IsTrue result ↔ IsTight (at_vertex labels.now.far) (count_at labels.now.hops) (way_of step) }
 {
-    let far = *labels.far.get(step.tail as usize);
+    // Counts of arcs tell most residual arcs that aren't tight, and lie closer together than lengths.
     let hops = *labels.hops.get(step.tail as usize);
-    let next_far = *labels.far.get(step.head as usize);
     let next_hops = *labels.hops.get(step.head as usize);
-    adds_up(step.length, next_far, far) && is_next(hops, next_hops)
+    if !is_next(hops, next_hops) {
+        return false;
+    }
+    let far = *labels.far.get(step.tail as usize);
+    let next_far = *labels.far.get(step.head as usize);
+    adds_up(step.length, next_far, far)
 }

@@ -24,4 +24,4 @@ returns c =
     let led : c.cost_of.result ≡ cost (led_by (way_of step) (standing far hops step.head)) = c.cost_of.ensures ∙ ap (λ z. cost (reach_by z (get_or hops step.head 0 + 1))) length in
     let gain : to_z w128 (of_z w128 (to_z w128 (of_z w128 c.cost_of-own.result) -ℤ to_z w128 (of_z w128 c.cost_of.result))) ≡ cost (standing far hops step.tail) -ℤ cost (led_by (way_of step) (standing far hops step.head)) =
     omega (arith, ints, own, led, c.type_inv.hops step.tail, c.type_inv.hops step.head) in
-    λ i. record { gain = gain i; vertex = step.tail; far = length i; hops = get_or hops step.head 0 + 1 }
+    λ i. record { gain = gain i; far = length i; hops = get_or hops step.head 0 + 1; vertex = step.tail }

@@ -2,14 +2,24 @@ use Rattle.std.proofs.Common.{◌≡◌, ◌<◌, List, slice_index, ◌∷◌, 
 use Rattle.std.specs.List.{flat_map}
 use Rattle.flow_net.specs.Flows.{pin_units, units_on}
 use Rattle.stage_flow.specs.declared.offers.Offer.{Offer}
-use Rattle.stage_flow.specs.Residual.{Way, ways_on}
+use Rattle.stage_flow.specs.Residual.{ways_on}
 use Rattle.stage_flow.specs.Sending.{way_of, arc_at}
-use Rattle.stage_flow.specs.Passes.{standing}
+use Rattle.stage_flow.specs.Passes.{mark_at, standing}
 use Rattle.stage_flow.specs.Mending.{offers_of, AreAdded}
 use Rattle.stage_flow.specs.Waiting.{waiting}
 use Rattle.stage_flow.proofs.ProgressNetworks.{vertices-few, ends-among}
-use Rattle.stage_flow.proofs.AddedOffers.{added-both, offers_of-append, ways_on-both, arc_at-number, offered-held}
+use Rattle.stage_flow.proofs.AddedOffers.{offers_of-closed, ways_on-both, arc_at-number, offered-held}
 use Rattle.stage_flow.proofs.mending.push_over.Goals as goal
+
+pub step_at-step-requires-clause-few : goal.step_at-step-requires-clause-few
+step_at-step-requires-clause-few c = vertices-few c.args.net.now c.requires.net
+
+pub step_at-step-requires-clause-ends : goal.step_at-step-requires-clause-ends
+step_at-step-requires-clause-ends c = ends-among c.args.net.now c.requires.net
+
+pub push_by-requires : goal.push_by-requires
+push_by-requires c =
+    offered-held c.args.net.now c.args.flow.now c.args.far.now c.args.hops.now c.args.stale.now c.requires.net c.requires.held c.args.number false (way_of c.step_at-step.result) c.requires.pin c.step_at-step.ensures
 
 pub step_at-requires-clause-few : goal.step_at-requires-clause-few
 step_at-requires-clause-few c = vertices-few c.args.net.now c.requires.net
@@ -17,34 +27,22 @@ step_at-requires-clause-few c = vertices-few c.args.net.now c.requires.net
 pub step_at-requires-clause-ends : goal.step_at-requires-clause-ends
 step_at-requires-clause-ends c = ends-among c.args.net.now c.requires.net
 
-pub push_by-requires : goal.push_by-requires
-push_by-requires c =
-    offered-held c.args.net.now c.args.flow.now c.args.far.now c.args.hops.now c.args.stale.now c.requires.net c.requires.held c.args.number false (way_of c.step_at.result) c.requires.pin c.step_at.ensures
-
-pub step_at-requires-then-units_at-gt0-clause-few : goal.step_at-requires-then-units_at-gt0-clause-few
-step_at-requires-then-units_at-gt0-clause-few c = vertices-few c.args.net.now c.requires.net
-
-pub step_at-requires-then-units_at-gt0-clause-ends : goal.step_at-requires-then-units_at-gt0-clause-ends
-step_at-requires-then-units_at-gt0-clause-ends c = ends-among c.args.net.now c.requires.net
-
 pub push_by-requires-then-units_at-gt0 : goal.push_by-requires-then-units_at-gt0
 push_by-requires-then-units_at-gt0 c =
-    offered-held c.args.net.now c.args.flow.now c.args.far.now c.args.hops.now c.args.stale.now c.requires.net c.requires.held c.args.number true (way_of c.step_at-then-units_at-gt0.result) c.requires.pin c.step_at-then-units_at-gt0.ensures
+    offered-held c.args.net.now c.args.flow.now c.args.far.now c.args.hops.now c.args.stale.now c.requires.net c.requires.held c.args.number true (way_of c.step_at.result) c.requires.pin c.step_at.ensures
 
-pub returns-in_ok-push_by-2 : goal.returns-in_ok-push_by-2
-returns-in_ok-push_by-2 c =
+pub returns-in_ok-push_by : goal.returns-in_ok-push_by
+returns-in_ok-push_by c =
     let flow = c.args.flow.now in
     let arc = arc_at c.args.net.now c.args.number in
     let labels = standing c.args.far.now c.args.hops.now in
     let stale = c.args.stale.now in
-    let before = waiting c.args.queue.now in
-    let between = waiting c.push_by.new.queue in
-    let after = waiting c.push_by-then-units_at-gt0.new.queue in
-    let first = way_of c.step_at.result in
-    let second = way_of c.step_at-then-units_at-gt0.result in
+    let first = way_of c.step_at-step.result in
+    let second = way_of c.step_at.result in
     let some : 0 < units_on flow arc = omega (arith, c.units_at.ensures, c.if-units_at-gt0.true, ap (slice_index (flat_map pin_units flow.pins)) (arc_at-number c.args.net.now c.args.number)) in
     let both : ways_on flow arc ≡ first ∷ second ∷ [] =
-    ways_on-both flow arc some ∙ (λ i. sym c.step_at.ensures i ∷ sym c.step_at-then-units_at-gt0.ensures i ∷ []) in
-    subst (λ (ways : List Way). AreAdded (offers_of labels stale ways) before after) (sym both)
-    (subst (λ (offers : List Offer). AreAdded offers before after) (sym (offers_of-append labels stale (first ∷ []) (second ∷ [])))
-    (added-both before (offers_of labels stale (first ∷ [])) between (offers_of labels stale (second ∷ [])) after c.in_ok-push_by.ensures c.in_ok-push_by-2.ensures))
+    ways_on-both flow arc some ∙ (λ i. sym c.step_at-step.ensures i ∷ sym c.step_at.ensures i ∷ []) in
+    let fresh : mark_at stale first.tail ≡ false = sym c.is_marked-leaves_stale.ensures ∙ c.if-leaves_stale.false in
+    subst (λ (offers : List Offer). AreAdded offers (waiting c.args.queue.now) (waiting c.push_by-then-units_at-gt0.new.queue))
+    (sym (ap (offers_of labels stale) both ∙ offers_of-closed labels stale first (second ∷ []) fresh))
+    c.in_ok-push_by.ensures

@@ -14,22 +14,26 @@ use Rattle.stage_flow.specs.Waiting.{waiting}
 use Rattle.stage_flow.proofs.SendingSearch.{numbers-low}
 use Rattle.stage_flow.proofs.Halfway.{IsHalfway, marked-low, none-stale, all-right, halfway-held}
 use Rattle.stage_flow.proofs.HalfwaySteps.{halfway-first, halfway-next, right-exist, stale_count, stale_count-cleared}
+use Rattle.stage_flow.proofs.AheadVertices.{ahead-cleared}
 use Rattle.stage_flow.proofs.mending.put_right.Goals as goal
 
 pub loop-offer-init : goal.loop-offer-init
-loop-offer-init c =
-    let net = c.args.net.now in
-    let flow = c.args.flow.now in
-    let far = c.args.labels.now.far in
-    let hops = c.args.labels.now.hops in
-    let stale = c.args.stale.now in
-    let old = label (at_vertex far) (count_at hops) in
-    let offers = waiting c.push_all.new.queue in
-    let (lengths, counts, labels) = right-exist net flow (at_vertex far) (count_at hops) stale c.requires.net c.requires.flow c.requires.wanted c.requires.right in
-    let moved = subst (λ (before : List Offer). AreAdded (flat_map (λ vertex. offers_of (standing far hops) stale (ways_by net flow (numbers_at net vertex))) c.args.vertices.now) before offers) c.clear.ensures c.in_ok-push_all.ensures in
-    let first = halfway-first net flow c.requires.net far hops stale c.args.vertices.now c.requires.right c.requires.marked lengths counts labels offers c.requires.each.0 c.requires.each.1 c.requires.each.2 moved in
-    subst (λ (xs : List ℤ). IsHalfway net flow old xs c.into_vec-hops.result.items stale offers) (sym (c.into_vec-far.ensures ∙ c.replace.ensures.value))
-    (subst (λ (xs : List ℕ). IsHalfway net flow old far xs stale offers) (sym (c.into_vec-hops.ensures ∙ c.replace-2.ensures.value)) first)
+loop-offer-init c = record {
+  halfway =
+      let net = c.args.net.now in
+      let flow = c.args.flow.now in
+      let far = c.args.labels.now.far in
+      let hops = c.args.labels.now.hops in
+      let stale = c.args.stale.now in
+      let old = label (at_vertex far) (count_at hops) in
+      let offers = waiting c.push_all.new.queue in
+      let (lengths, counts, labels) = right-exist net flow (at_vertex far) (count_at hops) stale c.requires.net c.requires.flow c.requires.wanted c.requires.right in
+      let moved = subst (λ (before : List Offer). AreAdded (flat_map (λ vertex. offers_of (standing far hops) stale (ways_by net flow (numbers_at net vertex))) c.args.vertices.now) before offers) c.clear.ensures c.in_ok-push_all.ensures in
+      let first = halfway-first net flow c.requires.net far hops stale c.args.vertices.now c.requires.right c.requires.marked lengths counts labels offers c.requires.each.0 c.requires.each.1 c.requires.each.2 moved in
+      subst (λ (xs : List ℤ). IsHalfway net flow old xs c.into_vec-hops.result.items stale offers) (sym (c.into_vec-far.ensures ∙ c.replace.ensures.value))
+      (subst (λ (xs : List ℕ). IsHalfway net flow old far xs stale offers) (sym (c.into_vec-hops.ensures ∙ c.replace-2.ensures.value)) first);
+  ahead = c.requires.marked.all;
+}
 
 pub push_from-requires-clause-held : goal.push_from-requires-clause-held
 push_from-requires-clause-held c =
@@ -41,7 +45,7 @@ push_from-requires-clause-held c =
     let far = c.accept.new.far in
     let hops = c.accept.new.hops in
     let stale = c.accept.new.stale in
-    let rest = waiting c.next.new.self in
+    let rest = waiting c.next_offer.new.queue in
     let far_sized : length far ≡ c.loop-offer.far.len = omega (arith, c.accept.auto.far, c.as_mut_slice.ensures.len) in
     let hops_sized : length hops ≡ c.loop-offer.hops.len = omega (arith, c.accept.auto.hops, c.as_mut_slice-in-Some.ensures.len) in
     let new_far : far ≡ set c.loop-offer.far.items offer.vertex offer.far = c.accept.ensures.far ∙ ap (λ (xs : List ℤ). set xs offer.vertex offer.far) c.as_mut_slice.ensures.value in
@@ -49,7 +53,7 @@ push_from-requires-clause-held c =
     let made = offers_of (standing far hops) stale (ways_by net flow (numbers_at net offer.vertex)) in
     let next =
     halfway-next net flow c.requires.net old_far old_hops c.args.stale.now c.requires.right c.loop-offer.far.items far c.loop-offer.hops.items hops c.loop-offer.stale stale (waiting c.loop-offer.queue) rest offer
-    c.loop-offer.invariant c.in-Some.ensures new_far new_hops c.accept.ensures.stale (rest ++ made) (IsPermutation-refl (rest ++ made)) in
+    c.loop-offer.invariant.halfway c.in-Some.ensures.first new_far new_hops c.accept.ensures.stale (rest ++ made) (IsPermutation-refl (rest ++ made)) in
     let held = halfway-held net flow c.requires.net old_far old_hops c.args.stale.now c.requires.right far hops stale (rest ++ made) c.requires.flow.each next in
     subst (λ (xs : List ℤ). AreHeld net flow xs c.as_slice-in-Some.result.now stale) (sym (c.as_slice.ensures.value ∙ with_items_is c.loop-offer.far far far_sized))
     (subst (λ (xs : List ℕ). AreHeld net flow far xs stale) (sym (c.as_slice-in-Some.ensures.value ∙ with_items_is c.loop-offer.hops hops hops_sized)) held)
@@ -58,43 +62,46 @@ pub push_from-requires-clause-pins : goal.push_from-requires-clause-pins
 push_from-requires-clause-pins c =
     let net = c.args.net.now in
     let vertex = c.in-Some.offer.vertex in
-    let low : vertex < vertex_count net = (let h = marked-low c.loop-offer.stale vertex c.in-Some.ensures.stale in omega (arith, h, c.loop-offer.invariant.each_mark)) in
+    let low : vertex < vertex_count net = (let h = marked-low c.loop-offer.stale vertex c.in-Some.ensures.first.stale in omega (arith, h, c.loop-offer.invariant.halfway.each_mark)) in
     subst (All (λ number. number / 2 < length net.pins)) (sym (c.at.ensures ∙ c.requires.incidence.at vertex low)) (numbers-low net vertex)
 
 pub loop-offer-smaller : goal.loop-offer-smaller
 loop-offer-smaller c =
-    let fewer = stale_count-cleared c.loop-offer.stale c.in-Some.offer.vertex c.in-Some.ensures.stale in
+    let fewer = stale_count-cleared c.loop-offer.stale c.in-Some.offer.vertex c.in-Some.ensures.first.stale in
     let same = ap stale_count c.accept.ensures.stale in
     omega (arith, fewer, same)
 
 pub loop-offer-preserved : goal.loop-offer-preserved
-loop-offer-preserved c =
-    let net = c.args.net.now in
-    let flow = c.args.flow.now in
-    let old_far = at_vertex c.args.labels.now.far in
-    let old_hops = count_at c.args.labels.now.hops in
-    let offer = c.in-Some.offer in
-    let far = c.accept.new.far in
-    let hops = c.accept.new.hops in
-    let stale = c.accept.new.stale in
-    let rest = waiting c.next.new.self in
-    let offers = waiting c.push_from.new.queue in
-    let low : offer.vertex < vertex_count net = (let h = marked-low c.loop-offer.stale offer.vertex c.in-Some.ensures.stale in omega (arith, h, c.loop-offer.invariant.each_mark)) in
-    let far_sized : length far ≡ c.loop-offer.far.len = omega (arith, c.accept.auto.far, c.as_mut_slice.ensures.len) in
-    let hops_sized : length hops ≡ c.loop-offer.hops.len = omega (arith, c.accept.auto.hops, c.as_mut_slice-in-Some.ensures.len) in
-    let new_far : far ≡ set c.loop-offer.far.items offer.vertex offer.far = c.accept.ensures.far ∙ ap (λ (xs : List ℤ). set xs offer.vertex offer.far) c.as_mut_slice.ensures.value in
-    let new_hops : hops ≡ set c.loop-offer.hops.items offer.vertex offer.hops = c.accept.ensures.hops ∙ ap (λ (xs : List ℕ). set xs offer.vertex offer.hops) c.as_mut_slice-in-Some.ensures.value in
-    let far_read : c.as_slice.result.now ≡ far = c.as_slice.ensures.value ∙ with_items_is c.loop-offer.far far far_sized in
-    let hops_read : c.as_slice-in-Some.result.now ≡ hops = c.as_slice-in-Some.ensures.value ∙ with_items_is c.loop-offer.hops hops hops_sized in
-    let numbers : c.at.result.now ≡ numbers_at net offer.vertex = c.at.ensures ∙ c.requires.incidence.at offer.vertex low in
-    let same : offers_of (standing c.as_slice.result.now c.as_slice-in-Some.result.now) stale (ways_by net flow c.at.result.now) ≡ offers_of (standing far hops) stale (ways_by net flow (numbers_at net offer.vertex)) =
-    λ i. offers_of (standing (far_read i) (hops_read i)) stale (ways_by net flow (numbers i)) in
-    let next =
-    halfway-next net flow c.requires.net old_far old_hops c.args.stale.now c.requires.right c.loop-offer.far.items far c.loop-offer.hops.items hops c.loop-offer.stale stale (waiting c.loop-offer.queue) rest offer
-    c.loop-offer.invariant c.in-Some.ensures new_far new_hops c.accept.ensures.stale offers
-    (subst (λ (more : List Offer). AreAdded more rest offers) same c.in_ok-push_from.ensures) in
-    subst (λ (xs : List ℤ). IsHalfway net flow (label old_far old_hops) xs (with_items c.loop-offer.hops hops).items stale offers) (sym (with_items_is c.loop-offer.far far far_sized))
-    (subst (λ (xs : List ℕ). IsHalfway net flow (label old_far old_hops) far xs stale offers) (sym (with_items_is c.loop-offer.hops hops hops_sized)) next)
+loop-offer-preserved c = record {
+  halfway =
+      let net = c.args.net.now in
+      let flow = c.args.flow.now in
+      let old_far = at_vertex c.args.labels.now.far in
+      let old_hops = count_at c.args.labels.now.hops in
+      let offer = c.in-Some.offer in
+      let far = c.accept.new.far in
+      let hops = c.accept.new.hops in
+      let stale = c.accept.new.stale in
+      let rest = waiting c.next_offer.new.queue in
+      let offers = waiting c.push_from.new.queue in
+      let low : offer.vertex < vertex_count net = (let h = marked-low c.loop-offer.stale offer.vertex c.in-Some.ensures.first.stale in omega (arith, h, c.loop-offer.invariant.halfway.each_mark)) in
+      let far_sized : length far ≡ c.loop-offer.far.len = omega (arith, c.accept.auto.far, c.as_mut_slice.ensures.len) in
+      let hops_sized : length hops ≡ c.loop-offer.hops.len = omega (arith, c.accept.auto.hops, c.as_mut_slice-in-Some.ensures.len) in
+      let new_far : far ≡ set c.loop-offer.far.items offer.vertex offer.far = c.accept.ensures.far ∙ ap (λ (xs : List ℤ). set xs offer.vertex offer.far) c.as_mut_slice.ensures.value in
+      let new_hops : hops ≡ set c.loop-offer.hops.items offer.vertex offer.hops = c.accept.ensures.hops ∙ ap (λ (xs : List ℕ). set xs offer.vertex offer.hops) c.as_mut_slice-in-Some.ensures.value in
+      let far_read : c.as_slice.result.now ≡ far = c.as_slice.ensures.value ∙ with_items_is c.loop-offer.far far far_sized in
+      let hops_read : c.as_slice-in-Some.result.now ≡ hops = c.as_slice-in-Some.ensures.value ∙ with_items_is c.loop-offer.hops hops hops_sized in
+      let numbers : c.at.result.now ≡ numbers_at net offer.vertex = c.at.ensures ∙ c.requires.incidence.at offer.vertex low in
+      let same : offers_of (standing c.as_slice.result.now c.as_slice-in-Some.result.now) stale (ways_by net flow c.at.result.now) ≡ offers_of (standing far hops) stale (ways_by net flow (numbers_at net offer.vertex)) =
+      λ i. offers_of (standing (far_read i) (hops_read i)) stale (ways_by net flow (numbers i)) in
+      let next =
+      halfway-next net flow c.requires.net old_far old_hops c.args.stale.now c.requires.right c.loop-offer.far.items far c.loop-offer.hops.items hops c.loop-offer.stale stale (waiting c.loop-offer.queue) rest offer
+      c.loop-offer.invariant.halfway c.in-Some.ensures.first new_far new_hops c.accept.ensures.stale offers
+      (subst (λ (more : List Offer). AreAdded more rest offers) same c.in_ok-push_from.ensures) in
+      subst (λ (xs : List ℤ). IsHalfway net flow (label old_far old_hops) xs (with_items c.loop-offer.hops hops).items stale offers) (sym (with_items_is c.loop-offer.far far far_sized))
+      (subst (λ (xs : List ℕ). IsHalfway net flow (label old_far old_hops) far xs stale offers) (sym (with_items_is c.loop-offer.hops hops hops_sized)) next);
+  ahead = ahead-cleared c.loop-offer.stale c.accept.new.stale c.args.vertices.now c.next_offer.new.seen c.in-Some.offer.vertex c.accept.ensures.stale c.in-Some.ensures.ahead;
+}
 
 pub returns-clause-labels : goal.returns-clause-labels
 returns-clause-labels c =
@@ -102,10 +109,10 @@ returns-clause-labels c =
     let flow = c.args.flow.now in
     let far = c.loop-offer.far.items in
     let hops = c.loop-offer.hops.items in
-    let right = all-right net flow c.requires.net (at_vertex c.args.labels.now.far) (count_at c.args.labels.now.hops) c.args.stale.now c.requires.right far hops c.loop-offer.stale (waiting c.loop-offer.queue) c.loop-offer.invariant c.in_default.ensures in
+    let right = all-right net flow c.requires.net (at_vertex c.args.labels.now.far) (count_at c.args.labels.now.hops) c.args.stale.now c.requires.right far hops c.loop-offer.stale (waiting c.loop-offer.queue) c.loop-offer.invariant.halfway c.in_default.ensures.first in
     subst (λ (xs : List ℤ). AreLabels net flow (at_vertex xs) (count_at c.from_vec-2.result)) (sym c.from_vec.ensures)
     (subst (λ (xs : List ℕ). AreLabels net flow (at_vertex far) (count_at xs)) (sym c.from_vec-2.ensures) right)
 
 pub returns-clause-none : goal.returns-clause-none
 returns-clause-none c =
-    none-stale c.args.net.now c.args.flow.now c.requires.net (at_vertex c.args.labels.now.far) (count_at c.args.labels.now.hops) c.args.stale.now c.requires.right c.loop-offer.far.items c.loop-offer.hops.items c.loop-offer.stale (waiting c.loop-offer.queue) c.loop-offer.invariant c.in_default.ensures
+    none-stale c.args.net.now c.args.flow.now c.requires.net (at_vertex c.args.labels.now.far) (count_at c.args.labels.now.hops) c.args.stale.now c.requires.right c.loop-offer.far.items c.loop-offer.hops.items c.loop-offer.stale (waiting c.loop-offer.queue) c.loop-offer.invariant.halfway c.in_default.ensures.first

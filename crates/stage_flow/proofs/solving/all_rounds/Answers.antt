@@ -1,6 +1,5 @@
-use Rattle.std.proofs.Common.{◌≡◌, ◌<◌, ◌∙◌, refl, sym, subst, arith}
+use Rattle.std.proofs.Common.{◌<◌, sym, subst, arith}
 use Rattle.flow_net.specs.declared.net.Flow.{Flow}
-use Rattle.stage_flow.specs.Rounds.{no_units}
 use Rattle.stage_flow.specs.Given.{ArePotentials}
 use Rattle.stage_flow.proofs.RoundsSent.{flow-sent, flow-wanted}
 use Rattle.stage_flow.proofs.ProgressPotentials.{first-potentials}

@@ -1,11 +1,10 @@
-use Rattle.std.proofs.Common.{◌≡◌, ◌<◌, ◌+◌, ◌∙◌, ◌-ℤ◌, ℕ, suc, ℤ, pos, length, get_or, map, List, Some, Ok, Err, Result, sym, ap, subst, arith}
+use Rattle.std.proofs.Common.{◌≡◌, ◌<◌, ◌+◌, ◌∙◌, ◌-ℤ◌, ℕ, suc, ℤ, pos, length, get_or, map, Some, Ok, Err, Result, sym, ap, subst, arith}
 use Rattle.std.specs.Prelude.{OnOk}
 use Rattle.std.proofs.lemmas.Int.{ints}
 use Rattle.std.proofs.lemmas.List.{get_or_default}
 use Rattle.std.proofs.lemmas.Result.{IfOk-weaker}
 use Rattle.flow_net.specs.declared.net.Net.{Net}
 use Rattle.flow_net.specs.declared.net.Flow.{Flow}
-use Rattle.stage_flow.specs.Residual.{Way, vertex_count}
 use Rattle.stage_flow.specs.Rounds.{sender, path_of, after_round, flow_after}
 use Rattle.stage_flow.specs.Given.{ArePotentials, at_vertex, count_at}
 use Rattle.stage_flow.specs.Sending.{way_of}

@@ -1,4 +1,4 @@
-use Rattle.std.proofs.Common.{◌≡◌, ◌/◌, ◌<◌, ◌∙◌, ◌++◌, ◌⊎◌, ◌∷◌, [], inl, inr, true, ℕ, List, Some, None, length, All, Contains, ap, sym, subst, arith, ⊎_elim}
+use Rattle.std.proofs.Common.{◌≡◌, ◌/◌, ◌<◌, ◌∙◌, ◌++◌, true, length, All, ap, sym, subst}
 use Rattle.std.specs.Prelude.{slice_set}
 use Rattle.stage_flow.specs.Given.{at_vertex, count_at}
 use Rattle.stage_flow.specs.Sending.{ways_by}

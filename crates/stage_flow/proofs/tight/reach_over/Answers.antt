@@ -5,16 +5,16 @@ use Rattle.stage_flow.proofs.tight.reach_over.Goals as goal
 
 pub reach_by-requires-clause-far : goal.reach_by-requires-clause-far
 reach_by-requires-clause-far c =
-    read-far c.args.net.now c.args.flow.now c.args.labels.now.far c.args.labels.now.hops c.args.number false (way_of c.step_at.result) c.requires.read c.requires.pin c.step_at.ensures
+    read-far c.args.net.now c.args.flow.now c.args.labels.now.far c.args.labels.now.hops c.args.number false (way_of c.step_at-step.result) c.requires.read c.requires.pin c.step_at-step.ensures
 
 pub reach_by-requires-clause-hops : goal.reach_by-requires-clause-hops
 reach_by-requires-clause-hops c =
-    read-hops c.args.net.now c.args.flow.now c.args.labels.now.far c.args.labels.now.hops c.args.number false (way_of c.step_at.result) c.requires.read c.requires.pin c.step_at.ensures
+    read-hops c.args.net.now c.args.flow.now c.args.labels.now.far c.args.labels.now.hops c.args.number false (way_of c.step_at-step.result) c.requires.read c.requires.pin c.step_at-step.ensures
 
 pub reach_by-requires-then-units_at-gt0-clause-far : goal.reach_by-requires-then-units_at-gt0-clause-far
 reach_by-requires-then-units_at-gt0-clause-far c =
-    read-far c.args.net.now c.args.flow.now c.args.labels.now.far c.args.labels.now.hops c.args.number true (way_of c.step_at-then-units_at-gt0.result) c.requires.read c.requires.pin c.step_at-then-units_at-gt0.ensures
+    read-far c.args.net.now c.args.flow.now c.args.labels.now.far c.args.labels.now.hops c.args.number true (way_of c.step_at.result) c.requires.read c.requires.pin c.step_at.ensures
 
 pub reach_by-requires-then-units_at-gt0-clause-hops : goal.reach_by-requires-then-units_at-gt0-clause-hops
 reach_by-requires-then-units_at-gt0-clause-hops c =
-    read-hops c.args.net.now c.args.flow.now c.args.labels.now.far c.args.labels.now.hops c.args.number true (way_of c.step_at-then-units_at-gt0.result) c.requires.read c.requires.pin c.step_at-then-units_at-gt0.ensures
+    read-hops c.args.net.now c.args.flow.now c.args.labels.now.far c.args.labels.now.hops c.args.number true (way_of c.step_at.result) c.requires.read c.requires.pin c.step_at.ensures

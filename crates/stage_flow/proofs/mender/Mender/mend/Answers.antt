@@ -1,12 +1,11 @@
-use Rattle.std.proofs.Common.{◌≡◌, ◌++◌, ◌∙◌, ◌∷◌, [], false, List, Bool, ℕ, length, map, take, drop, ap, sym, subst, arith}
+use Rattle.std.proofs.Common.{◌≡◌, ◌++◌, ◌∙◌, ◌∷◌, [], List, Bool, ℕ, length, map, take, drop, ap, sym, subst, arith}
 use Rattle.std.proofs.lemmas.List.{take_all, take-append-le}
 use Rattle.std.proofs.lemmas.Result.{on_ok_weaker}
 use Rattle.stage_flow.specs.Residual.{vertex_count}
 use Rattle.stage_flow.specs.Given.{at_vertex, count_at}
 use Rattle.stage_flow.specs.Sending.{way_of}
-use Rattle.stage_flow.specs.Passes.{mark_at}
-use Rattle.stage_flow.specs.Staleness.{SayWhoWaits, end_of, tails_on, AreSpread, NoneIsMarked}
-use Rattle.stage_flow.specs.Mending.{AreRightOutside, AreMarked}
+use Rattle.stage_flow.specs.Staleness.{SayWhoWaits, end_of, tails_on, NoneIsMarked}
+use Rattle.stage_flow.specs.Mending.{AreMarked}
 use Rattle.stage_flow.proofs.ProgressNetworks.{vertices-few, ends-among}
 use Rattle.stage_flow.proofs.RoundLeft.{spread-start, spread-right}
 use Rattle.stage_flow.proofs.mender.Mender.mend.Goals as goal
