@@ -1,12 +1,13 @@
 -- One turn of the loop over marked sites.
-use Rattle.std.proofs.Common.{◌≡◌, ℕ, suc, ◌<◌, ◌+◌, Bool, false, List, [], ◌∷◌, ◌++◌, None, length, get_or, take, drop, set, sym, ap, ap₂, ◌∙◌, arith, append_assoc}
+use Rattle.std.proofs.Common.{◌≡◌, ◌≢◌, ℕ, suc, ◌<◌, ◌+◌, Bool, false, List, [], ◌∷◌, ◌++◌, None, length, get_or, take, drop, set, refl, sym, ap, ap₂, ◌∙◌, arith}
 use Rattle.std.proofs.Math.Seq.{drop-cons}
 use Rattle.std.proofs.lemmas.List.{drop-set-lt, take_more_set}
 use Rattle.pulse_sim.specs.declared.site.Part.TheVariants.{Split}
 use Rattle.pulse_sim.specs.declared.site.Site.{Site}
 use Rattle.pulse_sim.specs.declared.marks.Mark.{Mark}
+use Rattle.pulse_sim.specs.declared.marks.Mark.TheVariants.{Busy, IdleCell, IdleSplitter}
 use Rattle.pulse_sim.specs.Sites.{Sweep}
-use Rattle.pulse_sim.specs.Marks.{visited, marked_sweep, mark_wires, marked_wires}
+use Rattle.pulse_sim.specs.Marks.{silent, visited, marked_sweep, mark_wires, marked_wires}
 
 -- what is known, and what is done
 abbrev pub so_far : List Bool → List Site → Sweep
@@ -50,14 +51,13 @@ module _ (phase at : ℕ) (marks : List Mark) (sites : List Site) (other : Mark)
         omega (arith, wide, long, room, room-here, left),
       )
 
--- one silent wire behind those that are known, and two
-pub one-silent : (pulses : List Bool) (place : ℕ) → place < length pulses → take (place + 1) (set pulses place false) ≡ take place pulses ++ false ∷ []
-one-silent pulses place below = take_more_set pulses place false below
+-- an idle site writes its silent wires, and stays as it is
+pub visited-idle : (phase : ℕ) (mark : Mark) (site : Site) (so : Sweep) → mark ≢ Busy → visited phase mark site so ≡ so_far (so.seen ++ silent mark) (so.sites ++ site ∷ [])
+visited-idle phase Busy site so idle = absurd (idle refl)
+visited-idle phase IdleCell site so idle = refl
+visited-idle phase IdleSplitter site so idle = refl
 
-pub two-silent : (pulses : List Bool) (place : ℕ) → place < length pulses → place + 1 < length (set pulses place false) → take (place + 2) (set (set pulses place false) (place + 1) false) ≡ take place pulses ++ (false ∷ (false ∷ []))
-two-silent pulses place below next =
-    let two : place + 2 ≡ place + 1 + 1 = omega arith in
-    ap (λ k. take k (set (set pulses place false) (place + 1) false)) two
-    ∙ take_more_set (set pulses place false) (place + 1) false next
-    ∙ ap (λ (s : List Bool). s ++ false ∷ []) (take_more_set pulses place false below)
-    ∙ append_assoc (take place pulses) (false ∷ []) (false ∷ [])
+pub wires-idle : (mark : Mark) (site : Site) → mark ≢ Busy → mark_wires mark site ≡ length (silent mark)
+wires-idle Busy site idle = absurd (idle refl)
+wires-idle IdleCell site idle = refl
+wires-idle IdleSplitter site idle = refl

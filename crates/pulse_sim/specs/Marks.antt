@@ -36,6 +36,12 @@ phase_marks inputs parts phase = marks_of phase (replicate inputs true) parts
 abbrev pub all_marks : ℕ → ℕ → List Part → List (List Mark)
 all_marks phases inputs parts = map (phase_marks inputs parts) (range_with_len 0 phases)
 
+-- what the wires of an idle site do: a cell has one, and a splitter two; nothing is said of a busy one
+abbrev pub silent : Mark → List Bool
+silent Busy = false ∷ []
+silent IdleCell = false ∷ []
+silent IdleSplitter = false ∷ (false ∷ [])
+
 -- a site with a mark in a tick: the wires of an idle one are silent, and its bits stay
 abbrev pub visited : ℕ → Mark → Site → Sweep → Sweep
 visited phase Busy site so = record { seen = so.seen ++ site_pulses phase so.seen site; sites = so.sites ++ next_site phase so.seen site ∷ [] }

@@ -1,6 +1,7 @@
 -- One tick of a simulator: what the wires do in it, and what the pins keep of it.
 use Rattle.std.specs.Prelude.{ℕ, ◌+◌, Bool, false, not, ◌&&◌, ◌||◌, ◌==◌, List, [], ◌∷◌, ◌++◌, take, Option, Some, None, slice_index_or}
 use Rattle.cell_lib.specs.declared.cell.Cell.{Cell}
+use Rattle.cell_lib.specs.declared.cell.Cell.TheVariants.{Dro, Not, And, Or, Xor, Maj}
 use Rattle.cell_lib.specs.Cell.{arity_of, cell_value}
 use Rattle.pulse_sim.specs.declared.site.PinBits.{PinBits}
 use Rattle.pulse_sim.specs.declared.site.PinPlaces.{PinPlaces}
@@ -12,6 +13,15 @@ use Rattle.pulse_sim.specs.declared.site.Site.{Site}
 abbrev pub pulse_at : List Bool → Option ℕ → Bool
 pulse_at seen None = false
 pulse_at seen (Some place) = slice_index_or seen place false
+
+-- a cell's values in the eight rows of three pins, as bits of a number; the first pin is the lowest bit of a row
+abbrev pub table_of : Cell → ℕ
+table_of Dro = 170
+table_of Not = 85
+table_of And = 136
+table_of Or = 238
+table_of Xor = 102
+table_of Maj = 232
 
 -- a cell pulses at its clock, where its value over the bits of its pins is true
 abbrev pub cell_pulse : Bool → Cell → PinBits → Bool

@@ -1,10 +1,12 @@
 //! Laying out a simulator: the wires of a netlist in the order in which they are made, and each element and output by places.
 
-ghost use Rattle.std.specs.Prelude.{◌≡◌, ◌<◌, [], IfOk, OnOk, slice_get, nat_eq, map, length, flat_map, option_to_list};
+ghost use Rattle.std.specs.Prelude.{◌≡◌, ◌<◌, ◌≤◌, [], IfOk, OnOk, slice_get, nat_eq, map, length, flat_map, option_to_list};
 ghost use Rattle.std.specs.List.{position};
 ghost use Rattle.indexmap.specs.IndexSet.{insert_all};
+ghost use Rattle.flow_net.specs.TheConstants.{MAX_PHASES};
 ghost use Rattle.pulse_net.specs.Validity.{IsValid};
 ghost use Rattle.pulse_net.specs.Wired.{element_makes, makes_of};
+ghost use Rattle.pulse_sim.specs.declared.layout.TheConstants.{MAX_WIRES};
 ghost use Rattle.pulse_sim.specs.Simulators.{place_of, pin_place, site_of, tap_of, used_inputs};
 
 use crate::site::{Part, PinBits, PinPlaces, Site, Tap};
@@ -60,17 +62,26 @@ fn insert_elements(wires: &mut IndexSet<u32>, elements: &[Element]) -> Result<()
     Ok(())
 }
 
+/// The wires of a simulator at most: 2^32, so that the place of each is a `u32`, and an element is small. No netlist has more, since
+/// the numbers of its wires differ, and are `u32`s.
+pub(crate) const MAX_WIRES: usize = 4_294_967_296;
+
 // The place of a wire in the order.
-fn place_of(net: &PulseNet, wires: &IndexSet<u32>, wire: u32) -> Option<usize>
-    requires { wires.now.keys ≡ makes_of net.now }
+fn place_of(net: &PulseNet, wires: &IndexSet<u32>, wire: u32) -> Option<u32>
+    requires few { length wires.now.keys ≤ MAX_WIRES }
+    requires wires { wires.now.keys ≡ makes_of net.now }
     ensures { result ≡ place_of net.now wire }
 {
-    wires.get_index_of(&wire)
+    match wires.get_index_of(&wire) {
+        None => None,
+        Some(place) => Some(place as u32),
+    }
 }
 
 // The place of the wire of one of the pins.
-fn pin_place(net: &PulseNet, wires: &IndexSet<u32>, pins: &[u32], pin: usize) -> Option<usize>
-    requires { wires.now.keys ≡ makes_of net.now }
+fn pin_place(net: &PulseNet, wires: &IndexSet<u32>, pins: &[u32], pin: usize) -> Option<u32>
+    requires few { length wires.now.keys ≤ MAX_WIRES }
+    requires wires { wires.now.keys ≡ makes_of net.now }
     ensures { result ≡ pin_place net.now (slice_get pins.now pin) }
 {
     match pins.get(pin) {
@@ -80,7 +91,8 @@ fn pin_place(net: &PulseNet, wires: &IndexSet<u32>, pins: &[u32], pin: usize) ->
 }
 
 fn pin_places(net: &PulseNet, wires: &IndexSet<u32>, pins: &[u32]) -> PinPlaces
-    requires { wires.now.keys ≡ makes_of net.now }
+    requires few { length wires.now.keys ≤ MAX_WIRES }
+    requires wires { wires.now.keys ≡ makes_of net.now }
     ensures { result ≡ record { first = pin_place net.now (slice_get pins.now 0); second = pin_place net.now (slice_get pins.now 1); third = pin_place net.now (slice_get pins.now 2) } }
 {
     PinPlaces {
@@ -92,8 +104,10 @@ fn pin_places(net: &PulseNet, wires: &IndexSet<u32>, pins: &[u32]) -> PinPlaces
 
 // An element before the first tick.
 fn site_of(net: &PulseNet, wires: &IndexSet<u32>, element: &Element) -> Site
+    requires few { length wires.now.keys ≤ MAX_WIRES }
     requires wires { wires.now.keys ≡ makes_of net.now }
-    requires phases { 0 < net.now.phases }
+    requires some_phases { 0 < net.now.phases }
+    requires few_phases { net.now.phases ≤ MAX_PHASES }
     ensures { result ≡ site_of net.now [] element.now }
 {
     let part = match element {
@@ -104,7 +118,7 @@ fn site_of(net: &PulseNet, wires: &IndexSet<u32>, element: &Element) -> Site
             ..
         } => Part::Clocked(
             *cell,
-            *stage % net.phases,
+            (*stage % net.phases) as u8,
             pin_places(net, wires, pins.as_slice()),
         ),
         Element::Split { from, .. } => Part::Split(place_of(net, wires, *from)),
@@ -125,8 +139,10 @@ pub(crate) fn sites_of(
     net: &PulseNet,
     wires: &IndexSet<u32>,
 ) -> Result<Vec<Site>, NoMemory>
+    requires few { length wires.now.keys ≤ MAX_WIRES }
     requires wires { wires.now.keys ≡ makes_of net.now }
-    requires phases { 0 < net.now.phases }
+    requires some_phases { 0 < net.now.phases }
+    requires few_phases { net.now.phases ≤ MAX_PHASES }
     ensures { IfOk result (λ sites. sites.items ≡ map (site_of net.now []) net.now.elements) }
 {
     let mut sites = Vec::with_capacity(alloc, net.elements.len())?;
@@ -138,7 +154,8 @@ pub(crate) fn sites_of(
 
 // An output by the place of its wire.
 fn tap_of(net: &PulseNet, wires: &IndexSet<u32>, outlet: Outlet) -> Tap
-    requires { wires.now.keys ≡ makes_of net.now }
+    requires few { length wires.now.keys ≤ MAX_WIRES }
+    requires wires { wires.now.keys ≡ makes_of net.now }
     ensures { result ≡ tap_of net.now outlet }
 {
     match outlet {
@@ -154,7 +171,8 @@ pub(crate) fn taps_of(
     net: &PulseNet,
     wires: &IndexSet<u32>,
 ) -> Result<List<Tap>, NoMemory>
-    requires { wires.now.keys ≡ makes_of net.now }
+    requires few { length wires.now.keys ≤ MAX_WIRES }
+    requires wires { wires.now.keys ≡ makes_of net.now }
     ensures { IfOk result (λ taps. taps ≡ map (tap_of net.now) net.now.outputs) }
 {
     let mut taps = List::new(alloc);

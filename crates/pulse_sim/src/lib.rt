@@ -14,8 +14,9 @@
 //! before it a line is `TooManyRows` whatever it is, a wrong length or a missing line feed is `RowShape`, and another
 //! character `RowChar`. The only other error of all of them is `NoMemory`. `signals_ignore_later_pulses` says that a signal
 //! at a tick doesn't depend on what inputs do later.
-//! Not promised: how long a tick takes. It reads a byte for each element, and does more for those that it touches. A row takes
-//! n ticks with n phases, and marks take n bytes for each element.
+//! Not promised: how long a tick takes. It reads a byte for each element and writes one for each wire, and does more for the
+//! elements that it touches, of 32 bytes each. Pins and cells follow no pattern, so what they are is looked up, with no branch
+//! that the machine would have to guess. A row takes n ticks with n phases, and marks take n bytes for each element.
 //!
 //! Read `specs/Rows.antt` down to `rows_of` for rows; `specs/Simulators.antt` down to `StandsFor` for what a simulator
 //! stands for, where `since_clock` says how far back a pin's bit remembers; `specs/Reading.antt` for the lines, and

@@ -1,8 +1,8 @@
 //! Which sites have nothing to do in the ticks of a phase, so that a tick needn't touch them.
 
-ghost use Rattle.std.specs.Prelude.{◌≡◌, ◌+◌, ◌++◌, [], length, take, IfOk, OnOk};
+ghost use Rattle.std.specs.Prelude.{◌≡◌, ◌≤◌, ◌+◌, ◌++◌, [], length, take, IfOk, OnOk};
 ghost use Rattle.pulse_sim.specs.Sites.{Sweep, sweep, site_wires};
-ghost use Rattle.pulse_sim.specs.Marks.{part_may, mark_of, marks_of, parts_of, phase_marks, all_marks, marked_sweep, marked_wires};
+ghost use Rattle.pulse_sim.specs.Marks.{part_may, mark_of, marks_of, parts_of, phase_marks, all_marks, silent, marked_sweep, marked_wires};
 
 use crate::site::{Part, Site, next_site, pulse_at, write_pulses};
 use net_base::{List, NoMemory};
@@ -24,7 +24,7 @@ fn mark_of(phase: u32, may: &[bool], part: Part) -> Mark
 {
     match part {
         Part::Clocked(_, its_phase, pins) => {
-            if phase == its_phase
+            if phase == u32::from(its_phase)
                 || pulse_at(may, pins.first)
                 || pulse_at(may, pins.second)
                 || pulse_at(may, pins.third)
@@ -49,7 +49,7 @@ fn push_may(phase: u32, may: &mut Vec<bool>, part: Part) -> Result<(), NoMemory>
     ensures { OnOk result (may.new.items ≡ may.old.items ++ part_may phase may.old.items part) }
 {
     match part {
-        Part::Clocked(_, its_phase, _) => may.push(phase == its_phase)?,
+        Part::Clocked(_, its_phase, _) => may.push(phase == u32::from(its_phase))?,
         Part::Split(from) => {
             let pulse = pulse_at(may, from);
             may.push(pulse)?;
@@ -93,6 +93,29 @@ pub(crate) fn all_marks(
     Ok(marks)
 }
 
+// How many wires an idle site makes beside its first.
+fn further_wires(mark: Mark) -> usize
+    ensures { 1 + result ≡ length (silent mark) }
+{
+    match mark {
+        Mark::IdleSplitter => 1,
+        Mark::Busy | Mark::IdleCell => 0,
+    }
+}
+
+// The wires of an idle site are silent: its last one, which may be its first, and its first. Cells and splitters follow no pattern, so
+// no branch tells them apart. Gives the place behind.
+fn silence(pulses: &mut [bool], place: usize, mark: Mark) -> usize
+    requires room { place + length (silent mark) ≤ length pulses.old }
+    ensures place { result ≡ place + length (silent mark) }
+    ensures pulses { take result pulses.new ≡ take place pulses.old ++ silent mark }
+{
+    let last = place + further_wires(mark);
+    pulses[place] = false;
+    pulses[last] = false;
+    last + 1
+}
+
 /// One tick of marked sites in order, where the first wires are known up to a place. A site that is idle isn't touched.
 fn marked_sweep(phase: u32, marks: &[Mark], sites: &mut [Site], pulses: &mut [bool], start: usize)
     requires marks { length marks.now ≡ length sites.old }
@@ -107,15 +130,7 @@ fn marked_sweep(phase: u32, marks: &[Mark], sites: &mut [Site], pulses: &mut [bo
                 sites[at] = next_site(phase, &pulses[..place], site);
                 place = write_pulses(phase, pulses, place, site);
             }
-            Mark::IdleCell => {
-                pulses[place] = false;
-                place += 1;
-            }
-            Mark::IdleSplitter => {
-                pulses[place] = false;
-                pulses[place + 1] = false;
-                place += 2;
-            }
+            idle => place = silence(pulses, place, idle),
         }
     }
 }

@@ -6,7 +6,7 @@ ghost use Rattle.pulse_net.specs.Validity.{IsValid};
 ghost use Rattle.pulse_sim.specs.Sites.{site_wires};
 ghost use Rattle.pulse_sim.specs.Simulators.{SimState, StandsFor, tap_pulses, next_state, output_pulses};
 
-use crate::layout::{made_wires, sites_of, taps_of, used_inputs};
+use crate::layout::{MAX_WIRES, made_wires, sites_of, taps_of, used_inputs};
 use crate::marks::{Mark, all_marks, sweep};
 use crate::site::{Site, Tap, write_inputs, write_taps};
 use net_base::{List, NoMemory};
@@ -51,6 +51,10 @@ impl Sim {
         ensures stands { IfOk result (λ sim. StandsFor net.now sim []) }
     {
         let wires = made_wires(alloc, net)?;
+        // No wires are so many, since each has a number of its own of 32 bits.
+        if wires.len() > MAX_WIRES {
+            return Err(NoMemory);
+        }
         let inputs = used_inputs(alloc, net.inputs.as_slice())?;
         let sites = sites_of(alloc, net, &wires)?;
         let taps = taps_of(alloc, net, &wires)?;

@@ -11,4 +11,4 @@ invariant_of-result c =
     let used = ap length (c.in_ok-inputs.ensures ∙ ap (used_inputs 0) c.as_slice.ensures) in
     let sites = ap site_wires c.in_ok-sites.ensures in
     let made = ap length c.in_ok-wires.ensures in
-    (omega (arith, c.requires.valid.formed.some_phases), omega (arith, used, sites, made, wires-counted c.args.net.now, c.in_ok-pulses.ensures.len, c.len-2.ensures.len), c.in_ok-marks.ensures ∙ ap₂ (λ inputs (sites : List Site). all_marks c.args.net.now.phases inputs (parts_of sites)) c.len.ensures c.deref.ensures.value)
+    (omega (arith, c.requires.valid.formed.some_phases), omega (arith, used, sites, made, wires-counted c.args.net.now, c.in_ok-pulses.ensures.len, c.len-3.ensures.len), c.in_ok-marks.ensures ∙ ap₂ (λ inputs (sites : List Site). all_marks c.args.net.now.phases inputs (parts_of sites)) c.len-2.ensures c.deref.ensures.value)
