@@ -4,8 +4,8 @@
 //! an end line. Format 2 is format 1 with majority cells, and stands only where there is one. `write` spells; `read` takes a
 //! whole text, and `read_prefix` what stands at its front, up to and with the end line.
 //!
-//! Promised: `write` gives the spelling (`spelling`). Where `read` answers `Ok` the bytes are the spelling of what it answers
-//! (`spelled`), and the netlist is formed (`formed`); `read_prefix` says the same of the front, with its bytes and lines (`bytes`,
+//! Promised: `write` gives the spelling (`spelling`), and says that names and numbers are as their types have them (`typed`).
+//! Where `read` answers `Ok` the bytes are the spelling of what it answers (`spelled`), and the netlist is formed (`formed`); `read_prefix` says the same of the front, with its bytes and lines (`bytes`,
 //! `lines`). Each other answer but `NoMemory` is the first fault of the text (`fault`): the first line that doesn't fit behind
 //! those before it, then no end, then a format that the elements don't need, then, in `read` alone, something behind the end.
 //! There are no more lines than bytes (`few`). The same as one answer, by a definition that reads line by line, is the clause
@@ -30,6 +30,7 @@ mod line;
 mod part;
 mod reader;
 mod reading;
+mod typed;
 mod word;
 mod writing;
 

@@ -6,7 +6,9 @@
 ghost use Rattle.std.specs.Prelude.{◌≡◌, ◌++◌, IfOk, OnOk, codes, decimal};
 ghost use Rattle.std.specs.List.{flat_map, list_any};
 ghost use Rattle.netlist_text.specs.Spelling as text;
+ghost use Rattle.netlist_text.specs.Laws.{IsTyped};
 
+use crate::typed::read_typed;
 use cell_lib::Cell;
 use flow_net::{Flow, Units};
 use itoa::Buffer;
@@ -214,7 +216,9 @@ fn push_header(out: &mut Vec<u8>, net: &PulseNet) -> Result<(), NoMemory>
 /// The netlist text of a netlist and a flow: in format 2 where the netlist has a majority cell, and else in format 1.
 pub fn write(alloc: Global, net: &PulseNet, flow: &Flow) -> Result<Vec<u8>, NoMemory>
     ensures spelling { IfOk result (λ bytes. bytes.items ≡ text.spelling_of net.now flow.now) }
+    ensures typed { IfOk result (λ _. IsTyped net.now flow.now) }
 {
+    read_typed(net, flow);
     let mut out = Vec::new(alloc);
     push_header(&mut out, net)?;
     push_inputs(&mut out, &net.names.inputs, &net.inputs)?;
