@@ -17,7 +17,7 @@ use Rattle.synth.specs.declared.fault.SynthFault.TheVariants.{Blif, TooManyDros}
 use Rattle.synth.specs.declared.made.Made.{Made}
 use Rattle.netlist_text.specs.Lines.{no_flow}
 use Rattle.synth.specs.Synth.{synth_of}
-use Rattle.rsfq_main.specs.declared.words.Command.TheVariants.{Map, Bench}
+use Rattle.rsfq_main.specs.declared.words.Command.TheVariants.{Map, Check, Sim, Bench}
 use Rattle.rsfq_main.specs.Words.{number_in, number_for, command_of}
 use Rattle.rsfq_main.specs.Summary.{part_lines, size_lines, summary_of}
 use Rattle.rsfq_main.specs.Notes.{note_of}
@@ -108,6 +108,22 @@ capital = refl
 no_words : command_of [] ≡ None
 unfolding digits number_in number_for command_of
 no_words = refl
+
+check_alone : command_of (codes "check" ∷ []) ≡ Some Check
+unfolding digits number_in number_for command_of
+check_alone = refl
+
+check_with_phases : command_of (codes "check" ∷ codes "phases=1" ∷ []) ≡ None
+unfolding digits number_in number_for command_of
+check_with_phases = refl
+
+sim_alone : command_of (codes "sim" ∷ []) ≡ Some Sim
+unfolding digits number_in number_for command_of
+sim_alone = refl
+
+sim_with_phases : command_of (codes "sim" ∷ codes "phases=1" ∷ []) ≡ None
+unfolding digits number_in number_for command_of
+sim_with_phases = refl
 
 bench_of_one_phase : command_of (codes "bench" ∷ codes "tables=2" ∷ codes "seed=0" ∷ []) ≡ Some (Bench 0 2 1)
 unfolding digits number_in number_for command_of

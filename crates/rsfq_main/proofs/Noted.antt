@@ -16,3 +16,4 @@ outcome-noted (Some command) left faults.Write is = absurd is
 outcome-noted (Some command) left faults.NoMemory is = refl
 outcome-noted (Some command) left faults.TooLong is = (is.0, ap fault_line is.1, sym (ap fault_status is.1), is.2)
 outcome-noted (Some command) left (faults.Refused note) is = (is.0, ap fault_line is.1, sym (ap fault_status is.1), is.2)
+outcome-noted (Some command) left (faults.Denied note) is = (is.0, ap fault_line is.1, sym (ap fault_status is.1), is.2)

@@ -1,7 +1,12 @@
 pub mod Words
 pub mod Summary
 pub mod Notes
+pub mod NetlistNotes
 pub mod Faults
+pub mod Objections
+pub mod Check
+pub mod Sim
 pub mod Commands
 pub mod Outcomes
 pub mod Run
+pub mod Laws

@@ -9,7 +9,7 @@ use Rattle.gen_blif.specs.declared.ripple_carry.TheConstants.{MAX_BITS}
 use Rattle.rsfq_main.specs.declared.keys.Key.{Key}
 use Rattle.rsfq_main.specs.declared.keys.Key.TheVariants as key
 use Rattle.rsfq_main.specs.declared.words.Command.{Command}
-use Rattle.rsfq_main.specs.declared.words.Command.TheVariants.{Map, Gen, GenAdder, Bench}
+use Rattle.rsfq_main.specs.declared.words.Command.TheVariants.{Map, Check, Sim, Gen, GenAdder, Bench}
 
 -- how a word begins that gives a key a number
 abbrev pub key_front : Key → List ℕ
@@ -87,6 +87,8 @@ unfoldable pub command_of : List (List ℕ) → Option Command
 command_of [] = None
 command_of (command ∷ words) =
     if bytes_eq command (codes "map") then map_with (given key.Phases words) words
+    else if bytes_eq command (codes "check") then of_words 0 words Check
+    else if bytes_eq command (codes "sim") then of_words 0 words Sim
     else if bytes_eq command (codes "gen") then gen_with (given key.Adder words) (given key.Seed words) (given key.Tables words) words
     else if bytes_eq command (codes "bench") then bench_with (given key.Seed words) (given key.Tables words) (given key.Phases words) words
     else None
@@ -94,6 +96,8 @@ command_of (command ∷ words) =
 -- the numbers of a command are in their ranges
 abbrev pub IsInRange : Command → Type 0
 IsInRange (Map phases) = (1 ≤ phases) × (phases ≤ MAX_PHASES)
+IsInRange Check = Unit {0}
+IsInRange Sim = Unit {0}
 IsInRange (Gen seed tables) = (1 ≤ tables) × (tables ≤ MAX_TABLES)
 IsInRange (GenAdder bits) = (1 ≤ bits) × (bits ≤ MAX_BITS)
 IsInRange (Bench seed tables phases) = (1 ≤ tables) × (tables ≤ MAX_TABLES) × (1 ≤ phases) × (phases ≤ MAX_PHASES)

@@ -32,6 +32,8 @@ pub enum Fault {
     TooLong,
     /// The text is refused for what it says; why, in a line.
     Refused(List<u8>),
+    /// The answer is no; why, in a line.
+    Denied(List<u8>),
     /// A write failed, or took nothing.
     Write,
     /// Memory ran out.
@@ -47,6 +49,7 @@ impl Fault {
             Fault::Usage => Status::Usage,
             Fault::Read => Status::ReadFault,
             Fault::TooLong | Fault::Refused(_) => Status::Refused,
+            Fault::Denied(_) => Status::No,
             Fault::Write => Status::WriteFault,
             Fault::NoMemory => Status::NoMemory,
         }
@@ -60,7 +63,7 @@ impl Fault {
             Fault::Usage => b"usage: COMMAND [KEY=VALUE ...]\n",
             Fault::Read => b"read fault\n",
             Fault::TooLong => b"text too long\n",
-            Fault::Refused(note) => note.as_slice(),
+            Fault::Refused(note) | Fault::Denied(note) => note.as_slice(),
             Fault::Write => b"write fault\n",
             Fault::NoMemory => b"no memory\n",
         }

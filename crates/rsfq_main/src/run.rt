@@ -1,11 +1,11 @@
 //! The top call: words and bytes in, bytes and a status out.
 
-ghost use Rattle.std.specs.Prelude.{◌≡◌, ◌≢◌, ◌↔◌, None, List, ℕ, map, string_bytes, IsOk};
+ghost use Rattle.std.specs.Prelude.{◌≡◌, ◌≢◌, ◌↔◌, None, List, ℕ, false, map, string_bytes, IsOk, IfOk, IfErr};
 ghost use Rattle.io_edge.specs.Counts.{AreLater, Rose};
 ghost use Rattle.io_edge.specs.WriteAll.{FailedOrStalled};
 ghost use Rattle.rsfq_main.specs.declared.fault.Fault.TheVariants.{Write};
 ghost use Rattle.rsfq_main.specs.Words.{command_of as command_in};
-ghost use Rattle.rsfq_main.specs.Commands.{output_of, IsMeant};
+ghost use Rattle.rsfq_main.specs.Commands.{is_too_long, output_of, IsMeant};
 ghost use Rattle.rsfq_main.specs.Faults.{outcome_status, fault_status, fault_line};
 ghost use Rattle.rsfq_main.specs.Outcomes.{IsInput, IsOutcome, OverText};
 ghost use Rattle.rsfq_main.specs.Run.{ComesExactly, IsDoneOrNoMemory, Asks, LeavesSource, read_limit, IsUnwritten, TakesOutput, Writes, WritesMeaning, Appends, IsNoteOf, TakesLine};
@@ -21,6 +21,7 @@ use std::alloc::Global;
 fn input<S: Source>(alloc: Global, limit: Option<usize>, source: &mut S) -> Result<List<u8>, Fault>
     ensures input { IsInput limit (S.left source.old) result }
     ensures source { LeavesSource limit (outcome_status result) (S.left source.old) (S.left source.new) (S.faults source.old) (S.faults source.new) }
+    ensures within { IfOk result (λ text. is_too_long limit text ≡ false) }
     ensures unread { limit ≡ None → source.new ≡ source.old }
 {
     let Some(most) = limit else {
@@ -39,6 +40,7 @@ fn output<S: Source>(alloc: Global, words: &[String], source: &mut S) -> Result<
     ensures outcome { IsOutcome (command_in (map string_bytes words.now)) (S.left source.old) result }
     ensures source { LeavesSource (read_limit (command_in (map string_bytes words.now))) (outcome_status result)
         (S.left source.old) (S.left source.new) (S.faults source.old) (S.faults source.new) }
+    ensures asked { IfErr result (λ fault. fault_status fault ≡ Status.No → Asks (command_in (map string_bytes words.now))) }
     ensures unread { read_limit (command_in (map string_bytes words.now)) ≡ None → source.new ≡ source.old }
 {
     let Some(command) = command_of(words) else {

@@ -18,7 +18,7 @@ pub enum Status {
     WriteFault,
     /// Memory ran out.
     NoMemory,
-    /// The answer to a question is no. No command asks one yet.
+    /// The answer to a question is no. `check` alone asks one.
     No,
 }
 

@@ -19,6 +19,15 @@ fn push_count(out: &mut Vec<u8>, word: &[u8], number: u64) -> Result<(), NoMemor
     out.extend_from_slice(b"\n")
 }
 
+/// A line of a word and a number.
+pub fn count_line(alloc: Global, word: &[u8], number: u64) -> Result<List<u8>, NoMemory>
+    ensures { IfOk result (λ bytes. bytes ≡ text.count_line word.now number) }
+{
+    let mut out = Vec::new(alloc);
+    push_count(&mut out, word, number)?;
+    Ok(List::from_vec(out))
+}
+
 // What the netlist was made from, and how many clocked elements of each kind and splitters it has.
 #[tactic(auto, unfolding(crate::specs::Summary::part_lines))]
 fn push_parts(out: &mut Vec<u8>, made: &Made) -> Result<(), NoMemory>

@@ -13,6 +13,10 @@ use crate::keys::{Key, words_spell_numbers};
 pub enum Command {
     /// Reads a BLIF text and writes the netlist of its tables. It holds the number of phases, 1 to `MAX_PHASES`.
     Map(u32),
+    /// Reads a netlist text, and writes how many DROs it has, if it is valid and they are the fewest.
+    Check,
+    /// Reads a netlist text and rows of input bits, and writes what is read at the outputs for each row.
+    Sim,
     /// Writes the BLIF text of a generated design: its seed, and its tables, 1 to `MAX_TABLES`.
     Gen(u64, u32),
     /// Writes the BLIF text of an adder of so many bits, 1 to `MAX_BITS`.
@@ -31,6 +35,19 @@ fn map_of(words: &[String]) -> Option<Command>
         None if words.is_empty() => Some(Command::Map(1)),
         Some(phases) if words.len() == 1 => Some(Command::Map(phases as u32)),
         _ => None,
+    }
+}
+
+// A command that has no keys, with the words behind it.
+fn alone(command: Command, words: &[String]) -> Option<Command>
+    requires { spec.IsInRange command }
+    ensures command { result ≡ spec.of_words 0 (map string_bytes words.now) command }
+    ensures in_range { IfSome result spec.IsInRange }
+{
+    if words.is_empty() {
+        Some(command)
+    } else {
+        None
     }
 }
 
@@ -74,7 +91,7 @@ fn bench_of(words: &[String]) -> Option<Command>
 }
 
 /// The command that the words spell, the program's own name not among them: `map`, alone for one phase or with
-/// `phases=N`; `gen` with `seed=S` and `tables=T` in either order, or with `adder=B` alone; `bench` with a seed and tables, alone
+/// `phases=N`; `check` and `sim`, each alone; `gen` with `seed=S` and `tables=T` in either order, or with `adder=B` alone; `bench` with a seed and tables, alone
 /// for one phase or with phases, in any order. None of all other words.
 #[tactic(auto, unfolding(crate::specs::Words::command_of))]
 pub fn command_of(words: &[String]) -> Option<Command>
@@ -85,6 +102,8 @@ pub fn command_of(words: &[String]) -> Option<Command>
     words_spell_numbers();
     match words {
         [command, words @ ..] if command.as_str() == "map" => map_of(words),
+        [command, words @ ..] if command.as_str() == "check" => alone(Command::Check, words),
+        [command, words @ ..] if command.as_str() == "sim" => alone(Command::Sim, words),
         [command, words @ ..] if command.as_str() == "gen" => gen_of(words),
         [command, words @ ..] if command.as_str() == "bench" => bench_of(words),
         _ => None,

@@ -1,0 +1,7 @@
+use Rattle.rsfq_main.specs.Sim.{IsSimulated}
+use Rattle.rsfq_main.proofs.NetlistRefusals.{text-answers}
+use Rattle.rsfq_main.proofs.sim.sim.Goals as goal
+
+pub returns-in-Err-Text : goal.returns-in-Err-Text
+returns-in-Err-Text c =
+    text-answers c.args.text.now (IsSimulated c.args.text.now) c.in-Err-Text.fault c.no_netlist.result (rw c.in-Err-Text.field-0-is at c.in-Err-Text.ensures.answer) c.no_netlist.ensures
