@@ -11,6 +11,10 @@ use Rattle.pulse_sim.specs.Rows.{rows_of, wrong_in}
 use Rattle.pulse_sim.specs.declared.fault.RowKind.TheVariants.{TooManyRows}
 use Rattle.pulse_sim.specs.Simulators.{SimState, since_clock, pin_bit, site_of, tap_of, used_inputs, tap_pulses, next_state, output_pulses}
 use Rattle.pulse_sim.specs.Reading.{lines_read}
+use Rattle.pulse_sim.specs.declared.site.Part.{Part}
+use Rattle.pulse_sim.specs.declared.site.Part.TheVariants as part
+use Rattle.pulse_sim.specs.Roots.{roots_of}
+use Rattle.pulse_sim.specs.Wakes.{first_pin, firings_of, deliveries_of}
 
 -- ---- rows
 
@@ -109,3 +113,25 @@ two_branches = record { names = one_input; phases = 1; latency = 1; inputs = Som
 
 branches : lines_read two_branches ((true ∷ []) ∷ ((false ∷ []) ∷ [])) ≡ 49 ∷ (49 ∷ (49 ∷ (10 ∷ (48 ∷ (48 ∷ (49 ∷ (10 ∷ [])))))))
 branches = refl
+
+-- ---- an inverter of phase 3 behind the left branch of a splitter of the one input
+
+abbrev behind_splitter : List Part
+behind_splitter = part.Split (Some 0) ∷ (part.Clocked Not 3 (record { first = Some 1; second = None; third = None }) ∷ [])
+
+-- the input is the root of its own wire and of both branches, and the inverter of its own
+roots : roots_of 1 behind_splitter ≡ Some (record { place = 0; clock = None }) ∷ (Some (record { place = 0; clock = None }) ∷ (Some (record { place = 0; clock = None }) ∷ (Some (record { place = 3; clock = Some 3 }) ∷ [])))
+roots = refl
+
+-- so it fires in phase 3, and takes its pulses from the input, whatever the phase
+fires : firings_of 3 1 behind_splitter ≡ record { at = 1; place = 3 } ∷ []
+fires = refl
+
+rests : firings_of 2 1 behind_splitter ≡ []
+rests = refl
+
+from_input : deliveries_of None 1 behind_splitter ≡ record { root = 0; at = 1; pin = first_pin } ∷ []
+from_input = refl
+
+from_cells : deliveries_of (Some 3) 1 behind_splitter ≡ []
+from_cells = refl

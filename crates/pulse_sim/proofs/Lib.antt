@@ -8,5 +8,8 @@ mod MadeWires
 mod SpreadRows
 mod RunsAreRight
 mod Examples
-mod MarksAreRight
-mod MarkedTurn
+mod FiredSites
+mod DeliveredPulses
+mod TurnIsRight
+mod ListedWakes
+mod ShownPulses

@@ -4,4 +4,5 @@ pub mod Simulators
 pub mod Laws
 pub mod Reading
 pub mod Running
-pub mod Marks
+pub mod Roots
+pub mod Wakes

@@ -1,14 +1,16 @@
 //! The simulator: one tick after the other.
 
-ghost use Rattle.std.specs.Prelude.{◌≡◌, ◌<◌, ◌+◌, ◌++◌, ◌%◌, [], ◌∷◌, List, Bool, length, IfOk};
+ghost use Rattle.std.specs.Prelude.{◌≡◌, ℕ, ◌<◌, ◌+◌, ◌++◌, ◌%◌, [], ◌∷◌, List, Bool, false, length, slice_index_or, IfOk};
 ghost use Rattle.pulse_net.specs.declared.net.PulseNet.{PulseNet as Netlist};
 ghost use Rattle.pulse_net.specs.Validity.{IsValid};
 ghost use Rattle.pulse_sim.specs.Sites.{site_wires};
 ghost use Rattle.pulse_sim.specs.Simulators.{SimState, StandsFor, tap_pulses, next_state, output_pulses};
 
 use crate::layout::{MAX_WIRES, made_wires, sites_of, taps_of, used_inputs};
-use crate::marks::{Mark, all_marks, sweep};
-use crate::site::{Site, Tap, write_inputs, write_taps};
+use crate::plan::{Plan, plan_of};
+use crate::root::write_shown;
+use crate::site::{Site, Tap, write_inputs};
+use crate::turn::turn;
 use net_base::{List, NoMemory};
 use pulse_net::{PulseNet, unbroken_is_wired};
 use std::alloc::Global;
@@ -24,24 +26,26 @@ pub struct Sim {
     inputs: List<usize>,
     sites: Vec<Site>,
     taps: List<Tap>,
-    // For each phase what the sites have to do in its ticks.
-    marks: List<List<Mark>>,
-    // What each wire does in the tick at hand.
+    // What is done in the ticks.
+    plan: Plan,
+    // What used inputs do in the tick at hand and what cells did at their last clocks, by the places of their wires. Wires of splitters
+    // have places too, of which nothing is said.
     pulses: Vec<bool>,
 }
 
 impl Model for Sim {
     ghost use Rattle.std.specs.Prelude.{◌≡◌, ◌<◌, ◌+◌, length};
     ghost use Rattle.pulse_sim.specs.Sites.{site_wires};
-    ghost use Rattle.pulse_sim.specs.Marks.{all_marks, parts_of};
+    ghost use Rattle.pulse_sim.specs.Roots.{parts_of};
+    ghost use Rattle.pulse_sim.specs.Wakes.{plan_of};
     ghost use Rattle.pulse_sim.specs.Simulators.{SimState};
 
     ghost Value = { SimState };
 
     ghost view = { λ sim. record { phases = sim.phases; tick = sim.tick; inputs = sim.inputs; sites = sim.sites.items; taps = sim.taps } };
 
-    // There is room for what each wire does, and the marks are those of the parts.
-    ghost invariant = { λ sim. (sim.tick < sim.phases) × (length sim.inputs + site_wires sim.sites.items ≡ length sim.pulses.items) × (sim.marks ≡ all_marks sim.phases (length sim.inputs) (parts_of sim.sites.items)) };
+    // There is room for what each wire does, and the plan is that of the parts and taps.
+    ghost invariant = { λ sim. (sim.tick < sim.phases) × (length sim.inputs + site_wires sim.sites.items ≡ length sim.pulses.items) × (sim.plan ≡ plan_of sim.phases (length sim.inputs) (parts_of sim.sites.items) sim.taps) };
 }
 
 impl Sim {
@@ -58,7 +62,7 @@ impl Sim {
         let inputs = used_inputs(alloc, net.inputs.as_slice())?;
         let sites = sites_of(alloc, net, &wires)?;
         let taps = taps_of(alloc, net, &wires)?;
-        let marks = all_marks(alloc, net.phases, inputs.len(), &sites)?;
+        let plan = plan_of(alloc, net.phases, inputs.len(), &sites, taps.as_slice())?;
         let pulses = vec![in alloc; false; wires.len()]?;
         Ok(Sim {
             phases: net.phases,
@@ -66,7 +70,7 @@ impl Sim {
             inputs,
             sites,
             taps,
-            marks,
+            plan,
             pulses,
         })
     }
@@ -97,14 +101,16 @@ impl Sim {
         ensures outputs { outputs.new ≡ tap_pulses self.old inputs.now }
     {
         write_inputs(&mut self.pulses, self.inputs.as_slice(), inputs);
-        sweep(
+        turn(
             self.tick,
-            self.marks.get(self.tick as usize).as_slice(),
+            self.plan.wakes.get(self.tick as usize),
+            self.plan.from_inputs.as_slice(),
+            self.inputs.len(),
+            any_pulse(inputs),
             &mut self.sites,
             &mut self.pulses,
-            self.inputs.len(),
         );
-        write_taps(self.tick, &self.pulses, self.taps.as_slice(), outputs);
+        write_shown(self.tick, &self.pulses, self.plan.shown.as_slice(), outputs);
         self.tick = next_tick(self.tick, self.phases);
     }
 }
@@ -116,4 +122,11 @@ fn next_tick(tick: u32, phases: u32) -> u32
     ensures below { result < phases }
 {
     if tick + 1 == phases { 0 } else { tick + 1 }
+}
+
+// Whether any input pulses.
+fn any_pulse(row: &[bool]) -> bool
+    ensures { result ≡ false → (input : ℕ) → slice_index_or row.now input false ≡ false }
+{
+    row.iter().any(|pulse| *pulse)
 }
