@@ -69,6 +69,8 @@ mod AgreedLabels
 mod Costs
 mod OldLabels
 mod FirstOffers
+mod FreshLabels
+mod RiseLists
 mod QueuedOffers
 mod AddedOffers
 mod AheadVertices
@@ -76,3 +78,5 @@ mod OpenArcs
 mod FirstLabels
 mod Halfway
 mod HalfwaySteps
+mod RaisedLabels
+mod RevivedVertices

@@ -61,7 +61,7 @@ module _ (net : Net) (flow : Flow) (far : ℕ → ℤ) (hops : ℕ → ℕ) (is 
       (omega (arith, ints, near.0, few, all), omega (arith, ints, near.1, few, all))
 
 -- ---- After a round
-negated-at : (numbers : List ℤ) (vertex : ℕ) → at_vertex (map (λ (z : ℤ). pos 0 -ℤ z) numbers) vertex ≡ pos 0 -ℤ at_vertex numbers vertex
+pub negated-at : (numbers : List ℤ) (vertex : ℕ) → at_vertex (map (λ (z : ℤ). pos 0 -ℤ z) numbers) vertex ≡ pos 0 -ℤ at_vertex numbers vertex
 negated-at [] vertex = refl
 negated-at (z ∷ zs) zero = refl
 negated-at (z ∷ zs) (suc vertex) = negated-at zs vertex

@@ -55,7 +55,7 @@ find-below test start (suc count) found is = by (test start) is (find-below test
 pub sender-low : (net : Net) (flow : Flow) (from : ℕ) → sender net flow ≡ Some from → from < vertex_count net
 sender-low net flow from is = omega (arith, find-below (has_to_send net flow) 0 (vertex_count net) from is)
 
-has_units-sent : (net : Net) (path : List Way) (flow : Flow) → HasUnits net flow → HasUnits net (sent_along path flow)
+pub has_units-sent : (net : Net) (path : List Way) (flow : Flow) → HasUnits net flow → HasUnits net (sent_along path flow)
 has_units-sent net [] flow units = units
 has_units-sent net (way ∷ path) flow units = has_units-sent net path (along way flow) (has_units-along net flow way units)
 

@@ -1,6 +1,7 @@
 -- What a round leaves of labels. A residual arc is lost only where it took a unit back and the path took it too, so its tail is on the
--- path; every other vertex keeps its tight arc. Of who wants, the receiver alone changes: it wants no more.
-use Rattle.std.proofs.Common.{◌≡◌, ◌<◌, ◌≤◌, ◌+◌, ◌==◌, ◌&&◌, ◌/◌, ◌^◌, ◌∙◌, ◌++◌, ◌⊎◌, ◌+ℤ◌, ◌-ℤ◌, ◌≤ℤ◌, inl, inr, ℕ, ℤ, suc, pos, nat_lt, nat_le, int_lt, Bool, true, false, not, cond, List, [], ◌∷◌, length, All, Contains, Some, refl, ap, sym, subst, arith, true≢false, ⊎_elim}
+-- path; every other vertex keeps its tight arc. A residual arc that is new is the reverse of a tight one, and not tight. Of who wants, the
+-- receiver alone changes: it wants no more.
+use Rattle.std.proofs.Common.{◌≡◌, ◌<◌, ◌≤◌, ◌+◌, ◌==◌, ◌&&◌, ◌/◌, ◌∙◌, ◌++◌, ◌⊎◌, ◌+ℤ◌, ◌-ℤ◌, ◌≤ℤ◌, inl, inr, ℕ, ℤ, suc, pos, nat_lt, nat_le, int_lt, Bool, true, false, not, cond, List, [], ◌∷◌, length, All, Contains, Some, refl, ap, sym, subst, arith, true≢false, ⊎_elim}
 use Rattle.std.proofs.lemmas.Bool.{cases_eq, cases_lt, eqb-true, eq-eqb, ne_eqb, leb-true, and_parts}
 use Rattle.std.proofs.lemmas.Bool.Decides.{nat_tests}
 use Rattle.std.proofs.lemmas.Int.{ints}
@@ -9,24 +10,23 @@ use Rattle.flow_net.specs.declared.net.Net.{Net}
 use Rattle.flow_net.specs.declared.net.Flow.{Flow}
 use Rattle.flow_net.specs.Arcs.{Arc, arcs_of}
 use Rattle.flow_net.specs.Flows.{units_on, out_minus_in, wants as wanted_of}
-use Rattle.stage_flow.specs.Residual.{Way, taking, ways_of, vertex_count}
-use Rattle.stage_flow.specs.Longest.{Reach}
+use Rattle.stage_flow.specs.Residual.{Way, adding, taking, ways_of, vertex_count}
 use Rattle.stage_flow.specs.Rounds.{sender, is_wanting, path_of, moved, along, sent_along, after_round}
-use Rattle.stage_flow.specs.LawsOfWalks.{IsWalk, AreLabels, HasUnits, IsRound, unit_at}
+use Rattle.stage_flow.specs.LawsOfWalks.{IsTight, IsWalk, HasUnits, IsRound, unit_at}
 use Rattle.stage_flow.specs.LawsOfSending.{IsPartFlow}
 use Rattle.stage_flow.specs.Given.{IsNetwork}
-use Rattle.stage_flow.specs.Mending.{IsSound, AreRightOutside}
+use Rattle.stage_flow.specs.Mending.{IsSound, AreRightOutside, AreMarked}
 use Rattle.stage_flow.specs.Passes.{mark_at}
-use Rattle.stage_flow.specs.Staleness.{AreSpread, end_of, AreLeftByRound, tails_on, NoneIsMarked}
-use Rattle.stage_flow.proofs.Labels.{IsLow, tight-nearer, labels-for, wanting-low, hops-below}
-use Rattle.stage_flow.proofs.LabelBounds.{far-within_hops}
+use Rattle.stage_flow.specs.Staleness.{AreDead, AreSpread, end_of, AreLeftByRound, tails_on, AreKept}
+use Rattle.stage_flow.proofs.Labels.{IsLow, tight-nearer, wanting-low}
+use Rattle.stage_flow.proofs.FreshLabels.{fresh-labels_for, fresh-wanting}
 use Rattle.stage_flow.proofs.Units.{arc-same, arc-low, units_on-along, units_on-others}
-use Rattle.stage_flow.proofs.Along.{way-on, adding-in, taking-in, has_units-along, IsOnArc, on_arc, walk-inside}
+use Rattle.stage_flow.proofs.Along.{way-on, adding-in, taking-in, has_units-along, IsOnArc, on_arc, walk-inside, kept-sent}
 use Rattle.stage_flow.proofs.Round.{ways-low, sender-low, after_round-is, rounds_go_by_labels}
 use Rattle.stage_flow.proofs.Wants.{sender-low as sends-low}
 use Rattle.stage_flow.proofs.Wanting.{wants-mirror}
 use Rattle.stage_flow.proofs.StillToSend.{sender-sends}
-use Rattle.stage_flow.proofs.ProgressNetworks.{vertices-few, light, ends-among}
+use Rattle.stage_flow.proofs.ProgressNetworks.{ends-among}
 
 -- ---- Residual arcs that stay
 -- A residual arc stays when a unit goes along one that leaves another vertex,
@@ -66,18 +66,6 @@ still-sent net flow (way ∷ path) other units on apart inside =
 walk-ends : (ways : List Way) (from to : ℕ) (walk : List Way) → IsWalk ways from to walk → end_of from walk ≡ to
 walk-ends ways from to [] here = here
 walk-ends ways from to (way ∷ walk) (there, begins, goes) = walk-ends ways way.head to walk goes
-
--- By labels those that want are those with no arc to go.
-wanting-none : (net : Net) (flow : Flow) (far : ℕ → ℤ) (hops : ℕ → ℕ) → AreLabels net flow far hops → (vertex : ℕ) → vertex < vertex_count net → is_wanting net flow vertex ≡ (hops vertex == 0)
-wanting-none net flow far hops labels vertex low = by (is_wanting net flow vertex) refl
-  where
-    by : (b : Bool) → is_wanting net flow vertex ≡ b → b ≡ (hops vertex == 0)
-    by true wants = sym (eq-eqb (hops vertex) 0 (ap (λ (r : Reach). r.hops) (labels.nothing vertex wants)))
-    by false none =
-        let (k, way, within, there, (begins, tight)) = labels.onward vertex low none in
-        let nearer = tight-nearer far hops way tight in
-        let same = ap hops begins in
-        sym (ne_eqb (hops vertex) 0 (λ zero. absurd (omega (arith, nearer, same, zero))))
 
 no-less : (a b : ℤ) → b ≤ℤ a → int_lt a b ≡ false
 no-less a b over = grind (arith, ints)
@@ -149,27 +137,24 @@ wanting-after net flow after from mirror part low wants ends vertex = by (vertex
     by false apart = other (λ same. true≢false (sym (eq-eqb vertex mirror same) ∙ apart)) ∙ sym (and-true (is_wanting net flow vertex) (not false) refl)
 
 -- ---- What is left
-pub round-left : (net : Net) (flow : Flow) (far : ℕ → ℤ) (hops : ℕ → ℕ) (from : ℕ) → IsNetwork net → IsPartFlow net flow → AreLabels net flow far hops → sender net flow ≡ Some from
-    → AreLeftByRound net (after_round net flow) far hops from (path_of net flow (Some from))
-round-left net flow far hops from is part labels sends =
-    let ends = ends-among net is in
-    let low = ways-low net flow ends in
-    let units : HasUnits net flow = record { each = part.each } in
-    let start = sender-low net flow from sends in
-    let (mirror, round) = rounds_go_by_labels net flow far hops from ends units (labels-for net flow far hops labels low from start) sends in
+pub round-left : (net : Net) (flow : Flow) (far : ℕ → ℤ) (hops : ℕ → ℕ) (marks : List Bool) (from : ℕ) → IsNetwork net → IsPartFlow net flow → AreKept net flow far hops marks → mark_at marks from ≡ false → sender net flow ≡ Some from
+    → AreLeftByRound net (after_round net flow) far hops marks from (path_of net flow (Some from))
+round-left net flow far hops marks from is part kept fresh sends =
+    let (mirror, round) = rounds_go_by_labels net flow far hops from (ends-among net is) units (fresh-labels_for net flow far hops marks kept.right low from start fresh) sends in
     record {
       fits = round.labels;
-      waits = λ v within.
-          wanting-after net flow (after_round net flow) from mirror part (sends-low net flow from (sender-sends net flow from sends)).0 round.receives.wants round.ends v
-          ∙ (λ i. wanting-none net flow far hops labels v within i && not (v == sym (walk-ends (ways_of net flow) from mirror (path_of net flow (Some from)) round.path.goes) i));
-      zero = λ v wants. labels.nothing v (before mirror round v wants);
-      few = λ v within. hops-below net flow far hops labels low v within;
-      held = λ v within. bounds (far v) (hops v) (far-within_hops net flow far hops ends (light net is) labels v within) (vertices-few net is);
+      waits = λ v within unmarked.
+          wants-after mirror round v
+          ∙ (λ i. fresh-wanting net flow far hops marks kept.right v within unmarked i && not (v == sym (walk-ends (ways_of net flow) from mirror path round.path.goes) i));
+      zero = λ v wants. kept.right.nothing v (and_parts (is_wanting net flow v) (not (v == mirror)) (sym (wants-after mirror round v) ∙ wants)).0;
+      few = kept.right.few;
+      held = kept.right.held;
       low = All-weaker (Contains (ways_of net flow)) (λ way. (way.tail < vertex_count net) × (way.head < vertex_count net))
           (λ way there. let own = All-contains (IsLow (vertex_count net)) (ways_of net flow) way low there in (own.0, own.1))
-          (path_of net flow (Some from)) (walk-inside (ways_of net flow) from mirror (path_of net flow (Some from)) round.path.goes);
+          path (walk-inside (ways_of net flow) from mirror path round.path.goes);
       starts = start;
-      sound = λ v within apart other. sound mirror round v within apart (λ same. other (same ∙ sym (walk-ends (ways_of net flow) from mirror (path_of net flow (Some from)) round.path.goes)));
+      sound = λ v within unmarked apart other. sound mirror round v within unmarked apart (λ same. other (same ∙ sym (walk-ends (ways_of net flow) from mirror path round.path.goes)));
+      dead = dead mirror round;
     }
   where
     path : List Way
@@ -178,28 +163,38 @@ round-left net flow far hops from is part labels sends =
     units : HasUnits net flow
     units = record { each = part.each }
 
-    bounds : (f : ℤ) (h : ℕ) → (f ≤ℤ pos h) × ((pos 0 -ℤ pos h) ≤ℤ f) × (h < vertex_count net) → vertex_count net < 2 ^ 32 → ((pos 0 -ℤ pos (2 ^ 42)) ≤ℤ f) × (f ≤ℤ pos (2 ^ 42))
-    bounds f h (most, least, few) small = (omega (arith, ints, least, few, small), omega (arith, ints, most, few, small))
+    low : All (IsLow (vertex_count net)) (ways_of net flow)
+    low = ways-low net flow (ends-among net is)
 
-    before : (mirror : ℕ) → IsRound net flow far hops from mirror → (v : ℕ) → is_wanting net (after_round net flow) v ≡ true → is_wanting net flow v ≡ true
-    before mirror round v wants =
-        (and_parts (is_wanting net flow v) (not (v == mirror))
-        (sym (wanting-after net flow (after_round net flow) from mirror part (sends-low net flow from (sender-sends net flow from sends)).0 round.receives.wants round.ends v) ∙ wants)).0
+    start : from < vertex_count net
+    start = sender-low net flow from sends
 
-    sound : (mirror : ℕ) → IsRound net flow far hops from mirror → (v : ℕ) → v < vertex_count net → All (λ way. way.tail ≡ v → ⊥) path → (v ≡ mirror → ⊥) → IsSound net (after_round net flow) far hops [] v
-    sound mirror round v within apart other = by (is_wanting net flow v) refl
+    wants-after : (mirror : ℕ) → IsRound net flow far hops from mirror → (v : ℕ) → is_wanting net (after_round net flow) v ≡ (is_wanting net flow v && not (v == mirror))
+    wants-after mirror round = wanting-after net flow (after_round net flow) from mirror part (sends-low net flow from (sender-sends net flow from sends)).0 round.receives.wants round.ends
+
+    sound : (mirror : ℕ) → IsRound net flow far hops from mirror → (v : ℕ) → v < vertex_count net → mark_at marks v ≡ false → All (λ way. way.tail ≡ v → ⊥) path → (v ≡ mirror → ⊥) → IsSound net (after_round net flow) far hops marks v
+    sound mirror round v within unmarked apart other = by (kept.right.sound v within unmarked)
       where
-        by : (b : Bool) → is_wanting net flow v ≡ b → IsSound net (after_round net flow) far hops [] v
-        by true wants =
-            inl (wanting-after net flow (after_round net flow) from mirror part (sends-low net flow from (sender-sends net flow from sends)).0 round.receives.wants round.ends v
-            ∙ (λ i. wants i && not (ne_eqb v mirror other i)))
-        by false none =
-            let (k, way, low, there, (begins, tight)) = labels.onward v within none in
+        by : IsSound net flow far hops marks v → IsSound net (after_round net flow) far hops marks v
+        by (inl wants) = inl (wants-after mirror round v ∙ (λ i. wants i && not (ne_eqb v mirror other i)))
+        by (inr (k, way, under, there, (begins, tight, free))) =
             let inside = still-sent net flow path way units
             (All-weaker (Contains (ways_of net flow)) (IsOnArc net) (on_arc net flow) path (walk-inside (ways_of net flow) from mirror path round.path.goes))
-            (All-weaker (λ one. one.tail ≡ v → ⊥) (λ one. one.tail ≡ way.tail → ⊥) (λ one differs same. differs (same ∙ begins)) path apart) (k, low, there) in
-            let kept : Contains (ways_of net (after_round net flow)) way = subst (λ (f : Flow). Contains (ways_of net f) way) (sym (after_round-is net flow from sends)) inside in
-            inr (kept.0, way, kept.1, kept.2, (begins, tight, refl))
+            (All-weaker (λ one. one.tail ≡ v → ⊥) (λ one. one.tail ≡ way.tail → ⊥) (λ one differs same. differs (same ∙ begins)) path apart) (k, under, there) in
+            let still : Contains (ways_of net (after_round net flow)) way = subst (λ (f : Flow). Contains (ways_of net f) way) (sym (after_round-is net flow from sends)) inside in
+            inr (still.0, way, still.1, still.2, (begins, tight, free))
+
+    -- The reverse of a tight arc leads away from the mirrors, and is tight for no labels.
+    dead : (mirror : ℕ) → IsRound net flow far hops from mirror → AreDead net (after_round net flow) far hops marks
+    dead mirror round =
+        subst (λ (f : Flow). AreDead net f far hops marks) (sym (after_round-is net flow from sends))
+        (kept-sent (λ way. IsTight far hops way → mark_at marks way.tail ≡ true → mark_at marks way.head ≡ true) net flow from mirror path units kept.dead round.path.goes
+        (All-weaker (IsTight far hops) (λ way. (arc : Arc) → way ≡ adding arc → IsTight far hops (taking arc) → mark_at marks arc.head ≡ true → mark_at marks arc.tail ≡ true)
+        (λ way own arc adds back marked.
+        let onward = tight-nearer far hops (adding arc) (subst (IsTight far hops) adds own) in
+        let backward = tight-nearer far hops (taking arc) back in
+        absurd (omega (arith, onward, backward)))
+        path round.path.tight))
 
 -- ---- Where the search for stale vertices begins
 -- A vertex is among the tails of a path, or no arc of it leaves the vertex.
@@ -215,19 +210,11 @@ among-tails (way ∷ path) vertex =
     (among-tails path vertex))
     (cases_eq way.tail vertex)
 
--- What is sound while nobody is marked is so by marks that nobody has.
-sound-unmarked : (net : Net) (flow : Flow) (far : ℕ → ℤ) (hops : ℕ → ℕ) (marks : List Bool) (vertex : ℕ) → ((v : ℕ) → mark_at marks v ≡ false) → IsSound net flow far hops [] vertex → IsSound net flow far hops marks vertex
-sound-unmarked net flow far hops marks vertex none (inl wants) = inl wants
-sound-unmarked net flow far hops marks vertex none (inr (k, way, within, there, (begins, tight, free))) = inr (k, way, within, there, (begins, tight, none way.head))
-
-pub spread-start : (net : Net) (flow : Flow) (far : ℕ → ℤ) (hops : ℕ → ℕ) (from : ℕ) (path : List Way) (marks : List Bool) (vertices pending : List ℕ) → AreLeftByRound net flow far hops from path → NoneIsMarked net marks → vertices ≡ []
+pub spread-start : (net : Net) (flow : Flow) (far : ℕ → ℤ) (hops : ℕ → ℕ) (from : ℕ) (path : List Way) (marks : List Bool) (vertices pending : List ℕ) → AreLeftByRound net flow far hops marks from path → AreMarked net marks vertices
     → pending ≡ tails_on path ++ end_of from path ∷ [] → AreSpread net flow far hops marks vertices pending
-spread-start net flow far hops from path marks vertices pending left clear empty is = record {
-  marked = record {
-    low = subst (All (λ v. v < vertex_count net)) (sym empty) (All-nil (λ v. v < vertex_count net));
-    all = λ v marked. absurd (true≢false (sym marked ∙ clear.none v));
-  };
-  unmarked = λ v wants. clear.none v;
+spread-start net flow far hops from path marks vertices pending left marked is = record {
+  marked = marked;
+  unmarked = λ v wants. (left.zero v wants).1;
   low = subst (All (λ v. v < vertex_count net)) (sym is)
       (All-append (λ v. v < vertex_count net) (tails_on path) (end_of from path ∷ [])
       (All-map (λ v. v < vertex_count net) (λ (way : Way). way.tail) path (All-weaker (λ way. (way.tail < vertex_count net) × (way.head < vertex_count net)) (λ way. way.tail < vertex_count net) (λ way both. both.0) path left.low))
@@ -239,9 +226,10 @@ spread-start net flow far hops from path marks vertices pending left clear empty
       (λ apart.
       ⊎_elim {C = Contains (tails_on path ++ end_of from path ∷ []) v ⊎ IsSound net flow far hops marks v}
       (λ same. inl (Contains-append_right (tails_on path) (end_of from path ∷ []) v (0, omega arith, sym same)))
-      (λ other. inr (sound-unmarked net flow far hops marks v clear.none (left.sound v within apart other)))
+      (λ other. inr (left.sound v within none apart other))
       (cases_eq v (end_of from path)))
       (among-tails path v));
+  dead = left.dead;
 }
   where
     end-low : (at : ℕ) (walk : List Way) → at < vertex_count net → All (λ way. (way.tail < vertex_count net) × (way.head < vertex_count net)) walk → end_of at walk < vertex_count net
@@ -251,11 +239,11 @@ spread-start net flow far hops from path marks vertices pending left clear empty
         (All-tail (λ one. (one.tail < vertex_count net) × (one.head < vertex_count net)) way walk all)
 
 -- and where it ends.
-pub spread-right : (net : Net) (flow : Flow) (far : ℕ → ℤ) (hops : ℕ → ℕ) (from : ℕ) (path : List Way) (marks : List Bool) (vertices : List ℕ) → AreLeftByRound net flow far hops from path → AreSpread net flow far hops marks vertices []
+pub spread-right : (net : Net) (flow : Flow) (far : ℕ → ℤ) (hops : ℕ → ℕ) (from : ℕ) (path : List Way) (marks : List Bool) (vertices : List ℕ) (before : List Bool) → AreLeftByRound net flow far hops before from path → AreSpread net flow far hops marks vertices []
     → AreRightOutside net flow far hops marks
-spread-right net flow far hops from path marks vertices left spread = record {
+spread-right net flow far hops from path marks vertices before left spread = record {
   fits = left.fits;
-  nothing = λ v wants. (left.zero v wants, spread.unmarked v wants);
+  nothing = λ v wants. ((left.zero v wants).0, spread.unmarked v wants);
   few = left.few;
   held = left.held;
   sound = λ v within none.

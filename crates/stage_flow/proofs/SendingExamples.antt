@@ -45,10 +45,10 @@ ways-sink : map (λ (way : Way). way.tail) (ways_by net one_sent (6 ∷ 7 ∷ []
 ways-sink = refl
 
 -- tight arcs lead from the source to the first gate alone, and on to the second, the sink and its mirror
-heads-source : heads_of far hops 0 (ways_by net (no_units net) (numbers_at net 0)) ≡ 1 ∷ []
+heads-source : heads_of far hops [] 0 (ways_by net (no_units net) (numbers_at net 0)) ≡ 1 ∷ []
 heads-source = refl
 
-heads-second : heads_of far hops 2 (ways_by net (no_units net) (numbers_at net 2)) ≡ 3 ∷ []
+heads-second : heads_of far hops [] 2 (ways_by net (no_units net) (numbers_at net 2)) ≡ 3 ∷ []
 heads-second = refl
 
 -- so to the second gate the path comes from the first

@@ -16,14 +16,17 @@ use Rattle.flow_net.specs.Flows.{units_on}
 use Rattle.stage_flow.specs.Residual.{Way, adding, taking, ways_on, ways_of, vertex_count}
 use Rattle.stage_flow.specs.Longest.{Reach}
 use Rattle.stage_flow.specs.Rounds.{best_to, is_wanting, is_last, or_lesser, least_last, last_of, last_way, path_to, path_of, path_from}
-use Rattle.stage_flow.specs.LawsOfWalks.{IsInLayer, EndsAreVertices, AreLabels, AreLabelsFor}
+use Rattle.stage_flow.specs.LawsOfWalks.{IsInLayer, EndsAreVertices, AreLabelsFor}
 use Rattle.stage_flow.specs.Given.{touches, count_at}
+use Rattle.stage_flow.specs.Passes.{mark_at}
 use Rattle.stage_flow.specs.Sending.{is_tight, comes_last, least_by, AreReached}
-use Rattle.stage_flow.proofs.Labels.{IsLow, tight-nearer, tight_walk-nearer, labels-for}
+use Rattle.stage_flow.specs.Staleness.{AreKept}
+use Rattle.stage_flow.proofs.Labels.{IsLow, tight-nearer, tight_walk-nearer}
+use Rattle.stage_flow.proofs.FreshLabels.{fresh-labels_for, fresh-wanting}
 use Rattle.stage_flow.proofs.Receiver.{layer_reach, best_to-in_layer, receiver-is}
 use Rattle.stage_flow.proofs.Path.{last-is, last-from, last_way-is, path_to-next}
 use Rattle.stage_flow.proofs.Round.{ways-low}
-use Rattle.stage_flow.proofs.SendingSearch.{ways_near, tight-test, test-tight}
+use Rattle.stage_flow.proofs.SendingSearch.{ways_near, tight-test, test-tight, tail-fresh}
 
 -- ---- The least by a test
 least_by-append : (test : Way → Bool) (found : Option Way) (a b : List Way) → least_by test found (a ++ b) ≡ least_by test (least_by test found a) b
@@ -84,19 +87,19 @@ same-tests false true to from = from refl
 same-tests false false to from = refl
 
 -- ---- The last arc, and the path
-module _ (net : Net) (flow : Flow) (far : ℕ → ℤ) (hops : ℕ → ℕ) (labels : AreLabels net flow far hops) (ends : EndsAreVertices net) (from : ℕ) (begins : from < vertex_count net) (reached : List ℕ) (are : AreReached net flow far hops from reached) where
+module _ (net : Net) (flow : Flow) (far : ℕ → ℤ) (hops : ℕ → ℕ) (marks : List Bool) (kept : AreKept net flow far hops marks) (ends : EndsAreVertices net) (from : ℕ) (begins : from < vertex_count net) (unmarked : mark_at marks from ≡ false) (reached : List ℕ) (are : AreReached net flow far hops marks from reached) where
   -- They serve who sends, as a round asks.
   serve : AreLabelsFor net flow far hops from
-  serve = labels-for net flow far hops labels (ways-low net flow ends) from begins
+  serve = fresh-labels_for net flow far hops marks kept.right (ways-low net flow ends) from begins unmarked
 
-  tests-agree : (steps vertex : ℕ) → vertex < vertex_count net → IsInLayer far hops (ways_of net flow) from (suc steps) vertex → (way : Way) → Contains (ways_of net flow) way
+  tests-agree : (steps vertex : ℕ) → vertex < vertex_count net → mark_at marks vertex ≡ false → IsInLayer far hops (ways_of net flow) from (suc steps) vertex → (way : Way) → Contains (ways_of net flow) way
       → is_last (best_to net flow from) (layer_reach far from (suc steps) vertex) vertex way ≡ comes_last far hops reached vertex way
-  tests-agree steps vertex within layer way there =
+  tests-agree steps vertex within free layer way there =
       same-tests (is_last (best_to net flow from) (layer_reach far from (suc steps) vertex) vertex way) (comes_last far hops reached vertex way)
       (λ last.
       let (comes, tight, before) = last-is net flow far hops from serve (ways-low net flow ends) steps vertex way layer there last in
       and_from (way.head == vertex) (is_tight far hops way && is_among nat_eq way.tail reached) (eq-eqb way.head vertex comes)
-      (and_from (is_tight far hops way) (is_among nat_eq way.tail reached) (tight-test far hops way tight) (are.all way.tail steps before)))
+      (and_from (is_tight far hops way) (is_among nat_eq way.tail reached) (tight-test far hops way tight) (are.all way.tail steps before (tail-fresh net flow far hops marks way kept.dead there tight (ap (mark_at marks) comes ∙ free)))))
       (λ passes.
       let parts = and_parts (way.head == vertex) (is_tight far hops way && is_among nat_eq way.tail reached) passes in
       let rest = and_parts (is_tight far hops way) (is_among nat_eq way.tail reached) parts.1 in
@@ -111,16 +114,16 @@ module _ (net : Net) (flow : Flow) (far : ℕ → ℤ) (hops : ℕ → ℕ) (lab
       last-from net flow far hops from serve (ways-low net flow ends) steps vertex way there comes tight
       (subst (λ n. IsInLayer far hops (ways_of net flow) from n way.tail) level behind))
 
-  pub last_way-read : (steps vertex : ℕ) → vertex < vertex_count net → IsInLayer far hops (ways_of net flow) from (suc steps) vertex
+  pub last_way-read : (steps vertex : ℕ) → vertex < vertex_count net → mark_at marks vertex ≡ false → IsInLayer far hops (ways_of net flow) from (suc steps) vertex
       → last_way (best_to net flow from) (ways_of net flow) vertex ≡ least_by (comes_last far hops reached vertex) None (ways_near net flow vertex)
-  last_way-read steps vertex within layer =
+  last_way-read steps vertex within free layer =
       let best = best_to net flow from in
       let ways = ways_of net flow in
       let reach = layer_reach far from (suc steps) vertex in
       ap (last_of best ways vertex) (best_to-in_layer net flow far hops from serve (ways-low net flow ends) (suc steps) vertex within layer)
       ∙ least_last-by best reach vertex None ways
       ∙ least_by-agree (is_last best reach vertex) (comes_last far hops reached vertex) None ways
-      (All-weaker (Contains ways) (λ way. is_last best reach vertex way ≡ comes_last far hops reached vertex way) (λ way there. tests-agree steps vertex within layer way there) ways (All-contains_itself ways))
+      (All-weaker (Contains ways) (λ way. is_last best reach vertex way ≡ comes_last far hops reached vertex way) (λ way there. tests-agree steps vertex within free layer way there) ways (All-contains_itself ways))
       ∙ least_by-near flow vertex (comes_last far hops reached vertex)
       (λ way passes. eqb-true way.head vertex (and_parts (way.head == vertex) (is_tight far hops way && is_among nat_eq way.tail reached) passes).0)
       (arcs_of net) None
@@ -130,50 +133,45 @@ module _ (net : Net) (flow : Flow) (far : ℕ → ℤ) (hops : ℕ → ℕ) (lab
     pub way : Way
     pub is : found ≡ Some way
     pub low : way.tail < vertex_count net
+    pub fresh : mark_at marks way.tail ≡ false
     pub layer : IsInLayer far hops (ways_of net flow) from steps way.tail
     pub path : path_to (best_to net flow from) (ways_of net flow) (suc steps) vertex ≡ path_to (best_to net flow from) (ways_of net flow) steps way.tail ++ way ∷ []
 
-  pub goes_back : (steps vertex : ℕ) (found : Option Way) → vertex < vertex_count net → IsInLayer far hops (ways_of net flow) from (suc steps) vertex
+  pub goes_back : (steps vertex : ℕ) (found : Option Way) → vertex < vertex_count net → mark_at marks vertex ≡ false → IsInLayer far hops (ways_of net flow) from (suc steps) vertex
       → found ≡ least_by (comes_last far hops reached vertex) None (ways_near net flow vertex) → GoesBack steps vertex found
-  goes_back steps vertex found within layer is =
+  goes_back steps vertex found within free layer is =
       let low = ways-low net flow ends in
       let (way, last, least) = last_way-is net flow far hops from serve low steps vertex within layer in
       record {
         way = way;
-        is = is ∙ sym (last_way-read steps vertex within layer) ∙ last;
+        is = is ∙ sym (last_way-read steps vertex within free layer) ∙ last;
         low = (All-contains (IsLow (vertex_count net)) (ways_of net flow) way low least.there).0;
+        fresh = tail-fresh net flow far hops marks way kept.dead least.there least.tight (ap (mark_at marks) least.ends ∙ free);
         layer = least.before;
         path = path_to-next net flow far hops from serve low steps vertex way last;
       }
 
   -- ---- The receiver
   -- A vertex with no arcs to go that was reached is a mirror that wants,
-  hops-wants : (vertex : ℕ) → vertex < vertex_count net → hops vertex ≡ 0 → is_wanting net flow vertex ≡ true
-  hops-wants vertex within none = by (is_wanting net flow vertex) refl
-    where
-      by : (b : Bool) → is_wanting net flow vertex ≡ b → is_wanting net flow vertex ≡ true
-      by true wants = wants
-      by false not_so =
-          let (k, way, inside, here, (begins, own)) = labels.onward vertex within not_so in
-          let nearer = tight-nearer far hops way own in
-          let same = ap hops begins in
-          absurd (omega (arith, nearer, same, none))
+  hops-wants : (vertex : ℕ) → vertex < vertex_count net → mark_at marks vertex ≡ false → hops vertex ≡ 0 → is_wanting net flow vertex ≡ true
+  hops-wants vertex within free none = fresh-wanting net flow far hops marks kept.right vertex within free ∙ eq-eqb (hops vertex) 0 none
 
   wants-hops : (vertex : ℕ) → is_wanting net flow vertex ≡ true → hops vertex ≡ 0
-  wants-hops vertex wants = ap (λ (r : Reach). r.hops) (labels.nothing vertex wants)
+  wants-hops vertex wants = ap (λ (r : Reach). r.hops) (kept.right.nothing vertex wants).0
 
   -- so the least of these is the receiver.
   pub receiver-read : (vertex : ℕ)
       → ((other : ℕ) → is_among nat_eq other reached ≡ true → hops other ≡ 0 → vertex ≤ other)
       → (((other : ℕ) → is_among nat_eq other reached ≡ true → hops other ≡ 0 → ⊥) ⊎ ((is_among nat_eq vertex reached ≡ true) × (hops vertex ≡ 0)))
-      → (vertex < vertex_count net) × IsInLayer far hops (ways_of net flow) from (hops from) vertex × (path_of net flow (Some from) ≡ path_to (best_to net flow from) (ways_of net flow) (hops from) vertex)
+      → (vertex < vertex_count net) × (mark_at marks vertex ≡ false) × IsInLayer far hops (ways_of net flow) from (hops from) vertex × (path_of net flow (Some from) ≡ path_to (best_to net flow from) (ways_of net flow) (hops from) vertex)
   receiver-read vertex least some =
       let (mirror, is, served) = receiver-is net flow far hops from serve (ways-low net flow ends) in
-      let there = are.all mirror (hops from) served.layer in
+      let there = are.all mirror (hops from) served.layer (kept.right.nothing mirror served.wants).1 in
       let own : is_among nat_eq vertex reached ≡ true × (hops vertex ≡ 0) =
       ⊎_elim {C = (is_among nat_eq vertex reached ≡ true) × (hops vertex ≡ 0)} (λ none. absurd (none mirror there (wants-hops mirror served.wants))) (λ h. h) some in
       let low = are.low vertex own.0 in
-      let wants = hops-wants vertex low own.1 in
+      let free = are.fresh vertex own.0 in
+      let wants = hops-wants vertex low free own.1 in
       let (k, layer) = are.found vertex own.0 in
       let long = tight_walk-nearer far hops (ways_of net flow) from vertex layer.walk layer.tight in
       let level : k ≡ hops from = omega (arith, long, own.1, layer.long) in
@@ -182,27 +180,30 @@ module _ (net : Net) (flow : Flow) (far : ℕ → ℤ) (hops : ℕ → ℕ) (lab
       let up = served.least vertex wants here in
       let same : mirror ≡ vertex = omega (arith, down, up) in (
         low,
+        free,
         here,
         ap (path_from net flow from) is ∙ ap (λ v. path_to (best_to net flow from) (ways_of net flow) (hops from) v) same,
       )
 
 -- ---- While the path is read
 -- The path to a vertex of a layer, and then what was read, is the whole path.
-pub record ReadsBack (net : Net) (flow : Flow) (far : ℕ → ℤ) (hops : ℕ → ℕ) (from : ℕ) (read : List Way) (left vertex : ℕ) : Type 0 where
+pub record ReadsBack (net : Net) (flow : Flow) (far : ℕ → ℤ) (hops : ℕ → ℕ) (marks : List Bool) (from : ℕ) (read : List Way) (left vertex : ℕ) : Type 0 where
   pub low : vertex < vertex_count net
+  pub fresh : mark_at marks vertex ≡ false
   pub layer : IsInLayer far hops (ways_of net flow) from left vertex
   pub path : path_to (best_to net flow from) (ways_of net flow) left vertex ++ reverse read ≡ path_of net flow (Some from)
 
-pub reads-next : (net : Net) (flow : Flow) (far : ℕ → ℤ) (hops : ℕ → ℕ) (from : ℕ) (read more : List Way) (left less vertex : ℕ) (way : Way) → less + 1 ≡ left → ReadsBack net flow far hops from read left vertex
-    → way.tail < vertex_count net → IsInLayer far hops (ways_of net flow) from less way.tail
+pub reads-next : (net : Net) (flow : Flow) (far : ℕ → ℤ) (hops : ℕ → ℕ) (marks : List Bool) (from : ℕ) (read more : List Way) (left less vertex : ℕ) (way : Way) → less + 1 ≡ left → ReadsBack net flow far hops marks from read left vertex
+    → way.tail < vertex_count net → mark_at marks way.tail ≡ false → IsInLayer far hops (ways_of net flow) from less way.tail
     → path_to (best_to net flow from) (ways_of net flow) (suc less) vertex ≡ path_to (best_to net flow from) (ways_of net flow) less way.tail ++ way ∷ []
-    → more ≡ read ++ way ∷ [] → ReadsBack net flow far hops from more less way.tail
-reads-next net flow far hops from read more left less vertex way down reads low layer path is =
+    → more ≡ read ++ way ∷ [] → ReadsBack net flow far hops marks from more less way.tail
+reads-next net flow far hops marks from read more left less vertex way down reads low free layer path is =
     let best = best_to net flow from in
     let ways = ways_of net flow in
     let same : left ≡ suc less = omega arith in
     record {
       low = low;
+      fresh = free;
       layer = layer;
       path =
           ap (λ r. path_to best ways less way.tail ++ reverse r) is
@@ -227,21 +228,21 @@ least-more hops xs i least next within all less here =
     All-more (λ v. count_at hops v ≡ 0 → next ≤ v) xs i 0 within
     (All-weaker (λ v. count_at hops v ≡ 0 → least ≤ v) (λ v. count_at hops v ≡ 0 → next ≤ v) (λ v h none. (let low = h none in omega (arith, low, less))) (take i xs) all) here
 
-pub reached-low : (net : Net) (flow : Flow) (far : ℕ → ℤ) (hops : ℕ → ℕ) (from : ℕ) (reached : List ℕ) → AreReached net flow far hops from reached → All (λ v. v < vertex_count net) reached
-reached-low net flow far hops from reached are = λ k d within. are.low (get_or reached k d) (Contains-among reached (get_or reached k d) (Contains-get_or reached k d within))
+pub reached-low : (net : Net) (flow : Flow) (far : ℕ → ℤ) (hops : ℕ → ℕ) (marks : List Bool) (from : ℕ) (reached : List ℕ) → AreReached net flow far hops marks from reached → All (λ v. v < vertex_count net) reached
+reached-low net flow far hops marks from reached are = λ k d within. are.low (get_or reached k d) (Contains-among reached (get_or reached k d) (Contains-get_or reached k d within))
 
 -- At first nothing was read, and the vertex is the receiver.
-pub reads-first : (net : Net) (flow : Flow) (far : ℕ → ℤ) (hops xs : List ℕ) (labels : AreLabels net flow far (count_at hops)) (ends : EndsAreVertices net) (from : ℕ) (begins : from < vertex_count net) (reached : List ℕ) (are : AreReached net flow far (count_at hops) from reached) (vertex left : ℕ) (read : List Way) (hs : List ℕ)
+pub reads-first : (net : Net) (flow : Flow) (far : ℕ → ℤ) (hops xs : List ℕ) (marks : List Bool) (kept : AreKept net flow far (count_at hops) marks) (ends : EndsAreVertices net) (from : ℕ) (begins : from < vertex_count net) (unmarked : mark_at marks from ≡ false) (reached : List ℕ) (are : AreReached net flow far (count_at hops) marks from reached) (vertex left : ℕ) (read : List Way) (hs : List ℕ)
     → vertex_count net < 2 ^ 32 → hs ≡ hops → xs ≡ reached
     → All (λ v. count_at hs v ≡ 0 → vertex ≤ v) xs → (vertex ≡ 2 ^ 32 - 1) ⊎ (Contains xs vertex × (count_at hs vertex ≡ 0)) → count_at hops from ≡ left → read ≡ []
-    → ReadsBack net flow far (count_at hops) from read left vertex
-reads-first net flow far hops xs labels ends from begins reached are vertex left read hs few hs_is xs_is all some left_is none =
+    → ReadsBack net flow far (count_at hops) marks from read left vertex
+reads-first net flow far hops xs marks kept ends from begins unmarked reached are vertex left read hs few hs_is xs_is all some left_is none =
     let least : (other : ℕ) → is_among nat_eq other reached ≡ true → count_at hops other ≡ 0 → vertex ≤ other =
     λ other among empty.
     let low : count_at hs other ≡ 0 → vertex ≤ other = All-contains (λ v. count_at hs v ≡ 0 → vertex ≤ v) xs other all (subst (λ ys. Contains ys other) (sym xs_is) (among-Contains reached other among)) in
     low (ap (λ ys. count_at ys other) hs_is ∙ empty) in
-    let (low, layer, path) =
-    receiver-read net flow far (count_at hops) labels ends from begins reached are vertex least
+    let (low, free, layer, path) =
+    receiver-read net flow far (count_at hops) marks kept ends from begins unmarked reached are vertex least
     (⊎_elim {C = ((other : ℕ) → is_among nat_eq other reached ≡ true → count_at hops other ≡ 0 → ⊥) ⊎ ((is_among nat_eq vertex reached ≡ true) × (count_at hops vertex ≡ 0))}
     (λ most. inl (λ other among empty. let h = least other among empty in let k = are.low other among in omega (arith, h, k, few, most)))
     (λ found. inr (Contains-among reached vertex (subst (λ ys. Contains ys vertex) xs_is found.0), ap (λ ys. count_at ys vertex) (sym hs_is) ∙ found.1))
@@ -250,6 +251,7 @@ reads-first net flow far hops xs labels ends from begins reached are vertex left
     let ways = ways_of net flow in
     record {
       low = low;
+      fresh = free;
       layer = subst (λ n. IsInLayer far (count_at hops) ways from n vertex) left_is layer;
       path =
           ap (λ n. path_to best ways n vertex ++ reverse read) (sym left_is)
@@ -259,28 +261,29 @@ reads-first net flow far hops xs labels ends from begins reached are vertex left
     }
 
 -- And it goes on by the arc that was found.
-pub reads-on : (net : Net) (flow : Flow) (far : ℕ → ℤ) (hops : ℕ → ℕ) (labels : AreLabels net flow far hops) (ends : EndsAreVertices net) (from : ℕ) (begins : from < vertex_count net) (reached : List ℕ) (are : AreReached net flow far hops from reached) (read more : List Way) (left less vertex : ℕ) (found : Option Way) (way : Way)
-    → found ≡ Some way → less + 1 ≡ left → ReadsBack net flow far hops from read left vertex → found ≡ least_by (comes_last far hops reached vertex) None (ways_near net flow vertex) → more ≡ read ++ way ∷ []
-    → ReadsBack net flow far hops from more less way.tail
-reads-on net flow far hops labels ends from begins reached are read more left less vertex found way one down reads is grown =
-    let back = goes_back net flow far hops labels ends from begins reached are less vertex found reads.low (subst (λ n. IsInLayer far hops (ways_of net flow) from n vertex) (let h : left ≡ suc less = omega arith in h) reads.layer) is in
+pub reads-on : (net : Net) (flow : Flow) (far : ℕ → ℤ) (hops : ℕ → ℕ) (marks : List Bool) (kept : AreKept net flow far hops marks) (ends : EndsAreVertices net) (from : ℕ) (begins : from < vertex_count net) (unmarked : mark_at marks from ≡ false) (reached : List ℕ) (are : AreReached net flow far hops marks from reached) (read more : List Way) (left less vertex : ℕ) (found : Option Way) (way : Way)
+    → found ≡ Some way → less + 1 ≡ left → ReadsBack net flow far hops marks from read left vertex → found ≡ least_by (comes_last far hops reached vertex) None (ways_near net flow vertex) → more ≡ read ++ way ∷ []
+    → ReadsBack net flow far hops marks from more less way.tail
+reads-on net flow far hops marks kept ends from begins unmarked reached are read more left less vertex found way one down reads is grown =
+    let back = goes_back net flow far hops marks kept ends from begins unmarked reached are less vertex found reads.low reads.fresh (subst (λ n. IsInLayer far hops (ways_of net flow) from n vertex) (let h : left ≡ suc less = omega arith in h) reads.layer) is in
     let both : Some back.way ≡ Some way = sym back.is ∙ one in
     let same : back.way ≡ way = cc in
-    reads-next net flow far hops from read more left less vertex way down reads
+    reads-next net flow far hops marks from read more left less vertex way down reads
     (subst (λ (w : Way). w.tail < vertex_count net) same back.low)
+    (subst (λ (w : Way). mark_at marks w.tail ≡ false) same back.fresh)
     (subst (λ (w : Way). IsInLayer far hops (ways_of net flow) from less w.tail) same back.layer)
     (subst (λ (w : Way). path_to (best_to net flow from) (ways_of net flow) (suc less) vertex ≡ path_to (best_to net flow from) (ways_of net flow) less w.tail ++ w ∷ []) same back.path)
     grown
 
 -- There is one.
-pub reads-some : (net : Net) (flow : Flow) (far : ℕ → ℤ) (hops : ℕ → ℕ) (labels : AreLabels net flow far hops) (ends : EndsAreVertices net) (from : ℕ) (begins : from < vertex_count net) (reached : List ℕ) (are : AreReached net flow far hops from reached) (read : List Way) (left vertex : ℕ) (found : Option Way)
-    → 0 < left → ReadsBack net flow far hops from read left vertex → found ≡ least_by (comes_last far hops reached vertex) None (ways_near net flow vertex) → found ≡ None → ⊥
-reads-some net flow far hops labels ends from begins reached are read left vertex found some reads is none =
-    let back = goes_back net flow far hops labels ends from begins reached are (left - 1) vertex found reads.low (subst (λ n. IsInLayer far hops (ways_of net flow) from n vertex) (let h : left ≡ suc (left - 1) = omega arith in h) reads.layer) is in
+pub reads-some : (net : Net) (flow : Flow) (far : ℕ → ℤ) (hops : ℕ → ℕ) (marks : List Bool) (kept : AreKept net flow far hops marks) (ends : EndsAreVertices net) (from : ℕ) (begins : from < vertex_count net) (unmarked : mark_at marks from ≡ false) (reached : List ℕ) (are : AreReached net flow far hops marks from reached) (read : List Way) (left vertex : ℕ) (found : Option Way)
+    → 0 < left → ReadsBack net flow far hops marks from read left vertex → found ≡ least_by (comes_last far hops reached vertex) None (ways_near net flow vertex) → found ≡ None → ⊥
+reads-some net flow far hops marks kept ends from begins unmarked reached are read left vertex found some reads is none =
+    let back = goes_back net flow far hops marks kept ends from begins unmarked reached are (left - 1) vertex found reads.low reads.fresh (subst (λ n. IsInLayer far hops (ways_of net flow) from n vertex) (let h : left ≡ suc (left - 1) = omega arith in h) reads.layer) is in
     let both : None ≡ Some back.way = sym none ∙ back.is in
     cc
 
 -- At the end all was read.
-pub reads-all : (net : Net) (flow : Flow) (far : ℕ → ℤ) (hops : ℕ → ℕ) (from : ℕ) (read : List Way) (left vertex : ℕ) → left ≤ 0 → ReadsBack net flow far hops from read left vertex → reverse read ≡ path_of net flow (Some from)
-reads-all net flow far hops from read left vertex none reads =
+pub reads-all : (net : Net) (flow : Flow) (far : ℕ → ℤ) (hops : ℕ → ℕ) (marks : List Bool) (from : ℕ) (read : List Way) (left vertex : ℕ) → left ≤ 0 → ReadsBack net flow far hops marks from read left vertex → reverse read ≡ path_of net flow (Some from)
+reads-all net flow far hops marks from read left vertex none reads =
     ap (λ n. path_to (best_to net flow from) (ways_of net flow) n vertex ++ reverse read) (let h : 0 ≡ left = omega arith in h) ∙ reads.path

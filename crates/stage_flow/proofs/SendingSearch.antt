@@ -1,7 +1,7 @@
 -- The search along tight arcs. Vertices are added behind those that are there, and are gone through in order. Each was found by a
 -- walk of tight arcs, and of each that was gone through the heads of its tight arcs are there too. At the end all were gone
 -- through, so what was reached is what walks of tight arcs reach.
-use Rattle.std.proofs.Common.{◌≡◌, ◌<◌, ◌≤◌, ◌+◌, ◌/◌, ◌==◌, ◌∙◌, ◌++◌, ◌⊎◌, ◌||◌, inl, ℕ, zero, suc, ℤ, nat_eq, Bool, true, false, cond, List, [], ◌∷◌, length, get_or, map, filter, take, drop, All, Contains, Some, refl, ap, sym, subst, arith, true≢false, ⊎_elim, append_assoc, length-append}
+use Rattle.std.proofs.Common.{◌≡◌, ◌<◌, ◌≤◌, ◌+◌, ◌/◌, ◌==◌, ◌∙◌, ◌++◌, ◌⊎◌, ◌||◌, ◌&&◌, inl, ℕ, zero, suc, ℤ, nat_eq, Bool, true, false, not, cond, List, [], ◌∷◌, length, get_or, map, filter, take, drop, All, Contains, Some, refl, ap, sym, subst, arith, true≢false, ⊎_elim, append_assoc, length-append}
 use Rattle.std.specs.List.{flat_map, IsDistinct}
 use Rattle.std.proofs.Math.Bool.{or_assoc}
 use Rattle.std.proofs.Math.Seq.{drop-cons}
@@ -20,7 +20,9 @@ use Rattle.stage_flow.specs.Residual.{Way, ways_on, ways_of, vertex_count}
 use Rattle.stage_flow.specs.Rounds.{is_reach}
 use Rattle.stage_flow.specs.LawsOfWalks.{IsTight, IsTightWalk, IsInLayer, EndsAreVertices, led_by, label}
 use Rattle.stage_flow.specs.Given.{touches, numbers_at}
+use Rattle.stage_flow.specs.Passes.{mark_at}
 use Rattle.stage_flow.specs.Sending.{arc_at, residual, ways_by, AreRead, is_tight, leads_on, heads_of, AreReached}
+use Rattle.stage_flow.specs.Staleness.{AreDead}
 use Rattle.stage_flow.proofs.Labels.{IsLow, tight_walk-push, tight_walk-tail}
 use Rattle.stage_flow.proofs.Path.{is_reach-is, is_reach-same}
 use Rattle.stage_flow.proofs.Units.{arc-low}
@@ -122,60 +124,75 @@ test-tight far hops way test =
     same
 
 -- ---- Heads of tight arcs out of a vertex
-heads-append : (far : ℕ → ℤ) (hops : ℕ → ℕ) (vertex : ℕ) (a b : List Way) → heads_of far hops vertex (a ++ b) ≡ heads_of far hops vertex a ++ heads_of far hops vertex b
-heads-append far hops vertex a b =
-    ap (map (λ (way : Way). way.head)) (filter-append (leads_on far hops vertex) a b) ∙ map-append (λ (way : Way). way.head) (filter (leads_on far hops vertex) a) (filter (leads_on far hops vertex) b)
+heads-append : (far : ℕ → ℤ) (hops : ℕ → ℕ) (marks : List Bool) (vertex : ℕ) (a b : List Way) → heads_of far hops marks vertex (a ++ b) ≡ heads_of far hops marks vertex a ++ heads_of far hops marks vertex b
+heads-append far hops marks vertex a b =
+    ap (map (λ (way : Way). way.head)) (filter-append (leads_on far hops marks vertex) a b) ∙ map-append (λ (way : Way). way.head) (filter (leads_on far hops marks vertex) a) (filter (leads_on far hops marks vertex) b)
 
 -- What is reached over one arc more, and then over the rest.
-pub reached-step : (net : Net) (flow : Flow) (far : ℕ → ℤ) (hops : ℕ → ℕ) (vertex : ℕ) (numbers : List ℕ) (i : ℕ) (keys next : List ℕ) → i < length numbers
-    → next ≡ insert_all nat_eq keys (heads_of far hops vertex (ways_on flow (arc_at net (get_or numbers i 0))))
-    → insert_all nat_eq next (heads_of far hops vertex (ways_by net flow (drop (i + 1) numbers))) ≡ insert_all nat_eq keys (heads_of far hops vertex (ways_by net flow (drop i numbers)))
-reached-step net flow far hops vertex numbers i keys next within is =
+pub reached-step : (net : Net) (flow : Flow) (far : ℕ → ℤ) (hops : ℕ → ℕ) (marks : List Bool) (vertex : ℕ) (numbers : List ℕ) (i : ℕ) (keys next : List ℕ) → i < length numbers
+    → next ≡ insert_all nat_eq keys (heads_of far hops marks vertex (ways_on flow (arc_at net (get_or numbers i 0))))
+    → insert_all nat_eq next (heads_of far hops marks vertex (ways_by net flow (drop (i + 1) numbers))) ≡ insert_all nat_eq keys (heads_of far hops marks vertex (ways_by net flow (drop i numbers)))
+reached-step net flow far hops marks vertex numbers i keys next within is =
     let own = ways_on flow (arc_at net (get_or numbers i 0)) in
     let rest = ways_by net flow (drop (i + 1) numbers) in
     let first : drop i numbers ≡ get_or numbers i 0 ∷ drop (i + 1) numbers = drop-cons numbers i 0 within ∙ ap (λ n. get_or numbers i 0 ∷ drop n numbers) (let h : suc i ≡ i + 1 = omega arith in h) in
-    ap (λ ks. insert_all nat_eq ks (heads_of far hops vertex rest)) is
-    ∙ sym (fold-append (insert_key nat_eq) keys (heads_of far hops vertex own) (heads_of far hops vertex rest))
-    ∙ ap (insert_all nat_eq keys) (sym (heads-append far hops vertex own rest))
-    ∙ ap (λ ns. insert_all nat_eq keys (heads_of far hops vertex (ways_by net flow ns))) (sym first)
+    ap (λ ks. insert_all nat_eq ks (heads_of far hops marks vertex rest)) is
+    ∙ sym (fold-append (insert_key nat_eq) keys (heads_of far hops marks vertex own) (heads_of far hops marks vertex rest))
+    ∙ ap (insert_all nat_eq keys) (sym (heads-append far hops marks vertex own rest))
+    ∙ ap (λ ns. insert_all nat_eq keys (heads_of far hops marks vertex (ways_by net flow ns))) (sym first)
 
-head-among : (far : ℕ → ℤ) (hops : ℕ → ℕ) (vertex : ℕ) (ways : List Way) (way : Way) → Contains ways way → way.tail ≡ vertex → IsTight far hops way → is_among nat_eq way.head (heads_of far hops vertex ways) ≡ true
-head-among far hops vertex [] way (k, within, is) begins tight = absurd (omega arith)
-head-among far hops vertex (first ∷ ways) way (zero, within, is) begins tight =
-    let test : leads_on far hops vertex way ≡ true = and_from (way.tail == vertex) (is_tight far hops way) (eq-eqb way.tail vertex begins) (tight-test far hops way tight) in
-    let own : leads_on far hops vertex first ≡ true = ap (leads_on far hops vertex) is ∙ test in
+head-among : (far : ℕ → ℤ) (hops : ℕ → ℕ) (marks : List Bool) (vertex : ℕ) (ways : List Way) (way : Way) → Contains ways way → way.tail ≡ vertex → IsTight far hops way → mark_at marks way.head ≡ false → is_among nat_eq way.head (heads_of far hops marks vertex ways) ≡ true
+head-among far hops marks vertex [] way (k, within, is) begins tight free = absurd (omega arith)
+head-among far hops marks vertex (first ∷ ways) way (zero, within, is) begins tight free =
+    let test : leads_on far hops marks vertex way ≡ true =
+    and_from (way.tail == vertex) (not (mark_at marks way.head) && is_tight far hops way) (eq-eqb way.tail vertex begins)
+    (and_from (not (mark_at marks way.head)) (is_tight far hops way) (ap not free) (tight-test far hops way tight)) in
+    let own : leads_on far hops marks vertex first ≡ true = ap (leads_on far hops marks vertex) is ∙ test in
     let here : nat_eq way.head first.head ≡ true = eq-eqb way.head first.head (sym (ap (λ (w : Way). w.head) is)) in
-    subst (λ b. is_among nat_eq way.head (map (λ (w : Way). w.head) (cond b (first ∷ filter (leads_on far hops vertex) ways) (filter (leads_on far hops vertex) ways))) ≡ true) (sym own)
-    (or_left (nat_eq way.head first.head) (is_among nat_eq way.head (heads_of far hops vertex ways)) here)
-head-among far hops vertex (first ∷ ways) way (suc k, within, is) begins tight =
-    by (leads_on far hops vertex first) (head-among far hops vertex ways way (k, omega arith, is) begins tight)
+    subst (λ b. is_among nat_eq way.head (map (λ (w : Way). w.head) (cond b (first ∷ filter (leads_on far hops marks vertex) ways) (filter (leads_on far hops marks vertex) ways))) ≡ true) (sym own)
+    (or_left (nat_eq way.head first.head) (is_among nat_eq way.head (heads_of far hops marks vertex ways)) here)
+head-among far hops marks vertex (first ∷ ways) way (suc k, within, is) begins tight free =
+    by (leads_on far hops marks vertex first) (head-among far hops marks vertex ways way (k, omega arith, is) begins tight free)
   where
-    by : (b : Bool) → is_among nat_eq way.head (heads_of far hops vertex ways) ≡ true → is_among nat_eq way.head (map (λ (w : Way). w.head) (cond b (first ∷ filter (leads_on far hops vertex) ways) (filter (leads_on far hops vertex) ways))) ≡ true
-    by true rest = or_right (nat_eq way.head first.head) (is_among nat_eq way.head (heads_of far hops vertex ways)) rest
+    by : (b : Bool) → is_among nat_eq way.head (heads_of far hops marks vertex ways) ≡ true → is_among nat_eq way.head (map (λ (w : Way). w.head) (cond b (first ∷ filter (leads_on far hops marks vertex) ways) (filter (leads_on far hops marks vertex) ways))) ≡ true
+    by true rest = or_right (nat_eq way.head first.head) (is_among nat_eq way.head (heads_of far hops marks vertex ways)) rest
     by false rest = rest
 
--- a tight arc from a vertex to another
-record Leads (far : ℕ → ℤ) (hops : ℕ → ℕ) (ways : List Way) (vertex to : ℕ) : Type 0 where
+-- a tight arc from a vertex to another, which isn't marked
+record Leads (far : ℕ → ℤ) (hops : ℕ → ℕ) (marks : List Bool) (ways : List Way) (vertex to : ℕ) : Type 0 where
   way : Way
   there : Contains ways way
   begins : way.tail ≡ vertex
   tight : IsTight far hops way
+  free : mark_at marks way.head ≡ false
   ends : way.head ≡ to
 
-among-head : (far : ℕ → ℤ) (hops : ℕ → ℕ) (vertex : ℕ) (ways : List Way) (x : ℕ) → is_among nat_eq x (heads_of far hops vertex ways) ≡ true → Leads far hops ways vertex x
-among-head far hops vertex [] x among = absurd (true≢false (sym among))
-among-head far hops vertex (first ∷ ways) x among = by (leads_on far hops vertex first) refl among (among-head far hops vertex ways x)
-  where
-    later : Leads far hops ways vertex x → Leads far hops (first ∷ ways) vertex x
-    later rest = let (k, within, is) = rest.there in record { way = rest.way; there = (suc k, omega arith, is); begins = rest.begins; tight = rest.tight; ends = rest.ends }
+not-true : (b : Bool) → not b ≡ true → b ≡ false
+not-true true is = absurd (true≢false (sym is))
+not-true false is = refl
 
-    by : (b : Bool) → leads_on far hops vertex first ≡ b → is_among nat_eq x (map (λ (w : Way). w.head) (cond b (first ∷ filter (leads_on far hops vertex) ways) (filter (leads_on far hops vertex) ways))) ≡ true → (is_among nat_eq x (heads_of far hops vertex ways) ≡ true → Leads far hops ways vertex x) → Leads far hops (first ∷ ways) vertex x
+among-head : (far : ℕ → ℤ) (hops : ℕ → ℕ) (marks : List Bool) (vertex : ℕ) (ways : List Way) (x : ℕ) → is_among nat_eq x (heads_of far hops marks vertex ways) ≡ true → Leads far hops marks ways vertex x
+among-head far hops marks vertex [] x among = absurd (true≢false (sym among))
+among-head far hops marks vertex (first ∷ ways) x among = by (leads_on far hops marks vertex first) refl among (among-head far hops marks vertex ways x)
+  where
+    later : Leads far hops marks ways vertex x → Leads far hops marks (first ∷ ways) vertex x
+    later rest = let (k, within, is) = rest.there in record { way = rest.way; there = (suc k, omega arith, is); begins = rest.begins; tight = rest.tight; free = rest.free; ends = rest.ends }
+
+    by : (b : Bool) → leads_on far hops marks vertex first ≡ b → is_among nat_eq x (map (λ (w : Way). w.head) (cond b (first ∷ filter (leads_on far hops marks vertex) ways) (filter (leads_on far hops marks vertex) ways))) ≡ true → (is_among nat_eq x (heads_of far hops marks vertex ways) ≡ true → Leads far hops marks ways vertex x) → Leads far hops marks (first ∷ ways) vertex x
     by true own among next =
-        ⊎_elim {C = Leads far hops (first ∷ ways) vertex x}
+        ⊎_elim {C = Leads far hops marks (first ∷ ways) vertex x}
         (λ here.
-        let parts = and_parts (first.tail == vertex) (is_tight far hops first) own in
-        record { way = first; there = (0, omega arith, refl); begins = eqb-true first.tail vertex parts.0; tight = test-tight far hops first parts.1; ends = sym (eqb-true x first.head here) })
-        (λ rest. later (next rest)) (or_cases (nat_eq x first.head) (is_among nat_eq x (heads_of far hops vertex ways)) among)
+        let parts = and_parts (first.tail == vertex) (not (mark_at marks first.head) && is_tight far hops first) own in
+        let rest = and_parts (not (mark_at marks first.head)) (is_tight far hops first) parts.1 in
+        record {
+          way = first;
+          there = (0, omega arith, refl);
+          begins = eqb-true first.tail vertex parts.0;
+          tight = test-tight far hops first rest.1;
+          free = not-true (mark_at marks first.head) rest.0;
+          ends = sym (eqb-true x first.head here);
+        })
+        (λ rest. later (next rest)) (or_cases (nat_eq x first.head) (is_among nat_eq x (heads_of far hops marks vertex ways)) among)
     by false own among next = later (next among)
 
 -- ---- Keys among those that were inserted
@@ -222,31 +239,33 @@ at-among (y ∷ xs) (suc i) x within at = or_right (nat_eq x y) (is_among nat_eq
 
 -- ---- The search
 -- while vertices are reached: the first few of them have the heads of their tight arcs there
-pub record ReachesOn (net : Net) (flow : Flow) (far : ℕ → ℤ) (hops : ℕ → ℕ) (from : ℕ) (reached : List ℕ) (next : ℕ) : Type 0 where
+pub record ReachesOn (net : Net) (flow : Flow) (far : ℕ → ℤ) (hops : ℕ → ℕ) (marks : List Bool) (from : ℕ) (reached : List ℕ) (next : ℕ) : Type 0 where
   pub few : next ≤ length reached
   pub start : is_among nat_eq from reached ≡ true
   pub found : (x : ℕ) → is_among nat_eq x reached ≡ true → (steps : ℕ) × IsInLayer far hops (ways_of net flow) from steps x
   pub low : (x : ℕ) → is_among nat_eq x reached ≡ true → x < vertex_count net
-  pub closed : (x : ℕ) → is_among nat_eq x (take next reached) ≡ true → (way : Way) → Contains (ways_of net flow) way → way.tail ≡ x → IsTight far hops way → is_among nat_eq way.head reached ≡ true
+  pub fresh : (x : ℕ) → is_among nat_eq x reached ≡ true → mark_at marks x ≡ false
+  pub closed : (x : ℕ) → is_among nat_eq x (take next reached) ≡ true → (way : Way) → Contains (ways_of net flow) way → way.tail ≡ x → IsTight far hops way → mark_at marks way.head ≡ false → is_among nat_eq way.head reached ≡ true
 
 only : (x y : ℕ) → is_among nat_eq x (y ∷ []) ≡ true → x ≡ y
 only x y among = eqb-true x y (⊎_elim {C = nat_eq x y ≡ true} (λ same. same) (λ none. absurd (true≢false (sym none))) (or_cases (nat_eq x y) false among))
 
-pub reaches-first : (net : Net) (flow : Flow) (far : ℕ → ℤ) (hops : ℕ → ℕ) (from : ℕ) (reached : List ℕ) → reached ≡ from ∷ [] → from < vertex_count net → ReachesOn net flow far hops from reached 0
-reaches-first net flow far hops from reached is within =
+pub reaches-first : (net : Net) (flow : Flow) (far : ℕ → ℤ) (hops : ℕ → ℕ) (marks : List Bool) (from : ℕ) (reached : List ℕ) → reached ≡ from ∷ [] → from < vertex_count net → mark_at marks from ≡ false → ReachesOn net flow far hops marks from reached 0
+reaches-first net flow far hops marks from reached is within free =
     let among : (x : ℕ) → is_among nat_eq x reached ≡ true → x ≡ from = λ x there. only x from (ap (is_among nat_eq x) (sym is) ∙ there) in record {
       few = omega arith;
       start = ap (is_among nat_eq from) is ∙ or_left (nat_eq from from) false (eq-eqb from from refl);
       found = λ x there. (0, record { walk = []; tight = record { goes = sym (among x there); tight = All-nil (IsTight far hops) }; long = refl });
       low = λ x there. (let same = among x there in omega (arith, same));
-      closed = λ x there way inside begins tight. absurd (true≢false (sym there));
+      fresh = λ x there. ap (mark_at marks) (among x there) ∙ free;
+      closed = λ x there way inside begins tight unmarked. absurd (true≢false (sym there));
     }
 
-pub reaches-next : (net : Net) (flow : Flow) (far : ℕ → ℤ) (hops : ℕ → ℕ) (from : ℕ) (reached : List ℕ) (next vertex : ℕ) (new : List ℕ) → EndsAreVertices net → next < length reached → vertex ≡ get_or reached next 0
-    → new ≡ insert_all nat_eq reached (heads_of far hops vertex (ways_near net flow vertex)) → ReachesOn net flow far hops from reached next → ReachesOn net flow far hops from new (next + 1)
-reaches-next net flow far hops from reached next vertex new ends within here is was =
+pub reaches-next : (net : Net) (flow : Flow) (far : ℕ → ℤ) (hops : ℕ → ℕ) (marks : List Bool) (from : ℕ) (reached : List ℕ) (next vertex : ℕ) (new : List ℕ) → EndsAreVertices net → next < length reached → vertex ≡ get_or reached next 0
+    → new ≡ insert_all nat_eq reached (heads_of far hops marks vertex (ways_near net flow vertex)) → ReachesOn net flow far hops marks from reached next → ReachesOn net flow far hops marks from new (next + 1)
+reaches-next net flow far hops marks from reached next vertex new ends within here is was =
     let near = ways_near net flow vertex in
-    let heads = heads_of far hops vertex near in
+    let heads = heads_of far hops marks vertex near in
     let grown = keys-grow reached heads in
     let whole : new ≡ reached ++ grown.0 = is ∙ grown.1 in
     let among_new : (x : ℕ) → is_among nat_eq x new ≡ (is_among nat_eq x reached || is_among nat_eq x heads) = λ x. ap (is_among nat_eq x) is ∙ keys-among reached heads x in
@@ -262,7 +281,7 @@ reaches-next net flow far hops from reached next vertex new ends within here is 
       found = λ x among.
           ⊎_elim {C = (steps : ℕ) × IsInLayer far hops (ways_of net flow) from steps x} (λ before. was.found x before)
           (λ head.
-          let leads = among-head far hops vertex near x head in
+          let leads = among-head far hops marks vertex near x head in
           let (steps, layer) = was.found vertex itself in
           let inside = near-from net flow vertex leads.way leads.there in (
             length (layer.walk ++ leads.way ∷ []),
@@ -276,36 +295,58 @@ reaches-next net flow far hops from reached next vertex new ends within here is 
       low = λ x among.
           ⊎_elim {C = x < vertex_count net} (λ before. was.low x before)
           (λ head.
-          let leads = among-head far hops vertex near x head in
+          let leads = among-head far hops marks vertex near x head in
           let ends = All-contains (IsLow (vertex_count net)) (ways_of net flow) leads.way low (near-from net flow vertex leads.way leads.there) in
           let same = leads.ends in
           omega (arith, ends.1, same))
           (or_cases (is_among nat_eq x reached) (is_among nat_eq x heads) (sym (among_new x) ∙ among));
-      closed = λ x among way inside begins tight.
-          ⊎_elim {C = is_among nat_eq way.head new ≡ true} (λ before. old way.head (was.closed x before way inside begins tight))
+      fresh = λ x among.
+          ⊎_elim {C = mark_at marks x ≡ false} (λ before. was.fresh x before)
+          (λ head. let leads = among-head far hops marks vertex near x head in ap (mark_at marks) (sym leads.ends) ∙ leads.free)
+          (or_cases (is_among nat_eq x reached) (is_among nat_eq x heads) (sym (among_new x) ∙ among));
+      closed = λ x among way inside begins tight unmarked.
+          ⊎_elim {C = is_among nat_eq way.head new ≡ true} (λ before. old way.head (was.closed x before way inside begins tight unmarked))
           (λ last.
           let at : way.tail ≡ vertex = begins ∙ only x vertex last in
           among_new way.head
-          ∙ or_right (is_among nat_eq way.head reached) (is_among nat_eq way.head heads) (head-among far hops vertex near way (near-to net flow vertex way inside (inl at)) at tight))
+          ∙ or_right (is_among nat_eq way.head reached) (is_among nat_eq way.head heads) (head-among far hops marks vertex near way (near-to net flow vertex way inside (inl at)) at tight unmarked))
           (or_cases (is_among nat_eq x (take next reached)) (is_among nat_eq x (vertex ∷ [])) (sym (list_any-append (nat_eq x) (take next reached) (vertex ∷ [])) ∙ ap (is_among nat_eq x) (sym looked) ∙ among));
     }
 
 -- There are no more than the vertices,
-pub reaches-few : (net : Net) (flow : Flow) (far : ℕ → ℤ) (hops : ℕ → ℕ) (from : ℕ) (reached : List ℕ) (next : ℕ) → IsDistinct nat_eq reached → ReachesOn net flow far hops from reached next → length reached ≤ vertex_count net
-reaches-few net flow far hops from reached next distinct was = length-le_from_distinct_below reached (vertex_count net) distinct was.low
+pub reaches-few : (net : Net) (flow : Flow) (far : ℕ → ℤ) (hops : ℕ → ℕ) (marks : List Bool) (from : ℕ) (reached : List ℕ) (next : ℕ) → IsDistinct nat_eq reached → ReachesOn net flow far hops marks from reached next → length reached ≤ vertex_count net
+reaches-few net flow far hops marks from reached next distinct was = length-le_from_distinct_below reached (vertex_count net) distinct was.low
 
--- and at the end all are reached.
-pub reaches-all : (net : Net) (flow : Flow) (far : ℕ → ℤ) (hops : ℕ → ℕ) (from : ℕ) (reached : List ℕ) (next : ℕ) → length reached ≤ next → ReachesOn net flow far hops from reached next → AreReached net flow far hops from reached
-reaches-all net flow far hops from reached next all was = record {
+-- A tight walk that ends at an unmarked vertex comes by no marked one, as marked vertices are dead,
+pub tail-fresh : (net : Net) (flow : Flow) (far : ℕ → ℤ) (hops : ℕ → ℕ) (marks : List Bool) (way : Way) → AreDead net flow far hops marks → Contains (ways_of net flow) way → IsTight far hops way → mark_at marks way.head ≡ false → mark_at marks way.tail ≡ false
+tail-fresh net flow far hops marks way dead there tight unmarked = by (mark_at marks way.tail) refl
+  where
+    by : (b : Bool) → mark_at marks way.tail ≡ b → mark_at marks way.tail ≡ false
+    by false free = free
+    by true marked =
+        absurd (true≢false (sym (All-contains (λ (one : Way). IsTight far hops one → mark_at marks one.tail ≡ true → mark_at marks one.head ≡ true) (ways_of net flow) way dead there tight marked) ∙ unmarked))
+
+walk-fresh : (net : Net) (flow : Flow) (far : ℕ → ℤ) (hops : ℕ → ℕ) (marks : List Bool) (at to : ℕ) (walk : List Way) → AreDead net flow far hops marks → IsTightWalk far hops (ways_of net flow) at to walk → mark_at marks to ≡ false → mark_at marks at ≡ false
+walk-fresh net flow far hops marks at to [] dead tight unmarked = ap (mark_at marks) tight.goes ∙ unmarked
+walk-fresh net flow far hops marks at to (way ∷ walk) dead tight unmarked =
+    let (there, begins, goes) = tight.goes in
+    let later = walk-fresh net flow far hops marks way.head to walk dead (tight_walk-tail far hops (ways_of net flow) at to way walk tight) unmarked in
+    ap (mark_at marks) (sym begins) ∙ tail-fresh net flow far hops marks way dead there (All-head (IsTight far hops) way walk tight.tight) later
+
+-- and so at the end all are reached.
+pub reaches-all : (net : Net) (flow : Flow) (far : ℕ → ℤ) (hops : ℕ → ℕ) (marks : List Bool) (from : ℕ) (reached : List ℕ) (next : ℕ) → AreDead net flow far hops marks → length reached ≤ next → ReachesOn net flow far hops marks from reached next → AreReached net flow far hops marks from reached
+reaches-all net flow far hops marks from reached next dead all was = record {
   found = was.found;
   low = was.low;
-  all = λ vertex steps layer. along from layer.walk vertex layer.tight was.start;
+  fresh = was.fresh;
+  all = λ vertex steps layer unmarked. along from layer.walk vertex layer.tight unmarked was.start;
 }
   where
-    along : (at : ℕ) (walk : List Way) (vertex : ℕ) → IsTightWalk far hops (ways_of net flow) at vertex walk → is_among nat_eq at reached ≡ true → is_among nat_eq vertex reached ≡ true
-    along at [] vertex tight among = subst (λ v. is_among nat_eq v reached ≡ true) tight.goes among
-    along at (way ∷ walk) vertex tight among =
+    along : (at : ℕ) (walk : List Way) (vertex : ℕ) → IsTightWalk far hops (ways_of net flow) at vertex walk → mark_at marks vertex ≡ false → is_among nat_eq at reached ≡ true → is_among nat_eq vertex reached ≡ true
+    along at [] vertex tight unmarked among = subst (λ v. is_among nat_eq v reached ≡ true) tight.goes among
+    along at (way ∷ walk) vertex tight unmarked among =
         let (there, begins, goes) = tight.goes in
         let own = All-head (IsTight far hops) way walk tight.tight in
-        along way.head walk vertex (tight_walk-tail far hops (ways_of net flow) at vertex way walk tight)
-        (was.closed at (ap (is_among nat_eq at) (take_all next reached all) ∙ among) way there begins own)
+        let rest = tight_walk-tail far hops (ways_of net flow) at vertex way walk tight in
+        along way.head walk vertex rest unmarked
+        (was.closed at (ap (is_among nat_eq at) (take_all next reached all) ∙ among) way there begins own (walk-fresh net flow far hops marks way.head vertex walk dead rest unmarked))

@@ -1,15 +1,16 @@
 -- Which labels a round leaves stale. A vertex that is found stale is marked, and the tails of the tight arcs into it are looked at again;
 -- every other vertex keeps the arc that made it sound. At the end nobody is left to be looked at, so who isn't marked is sound.
-use Rattle.std.proofs.Common.{◌≡◌, ◌≢◌, ◌<◌, ◌+◌, ◌==◌, ◌∙◌, ◌++◌, ◌⊎◌, inl, inr, ℕ, zero, suc, ℤ, Bool, true, false, cond, List, [], ◌∷◌, length, get_or, map, filter, drop, All, Any, Contains, Option, Some, None, refl, ap, sym, subst, arith, true≢false, ⊎_elim, append_assoc}
+use Rattle.std.proofs.Common.{◌≡◌, ◌≢◌, ◌<◌, ◌+◌, ◌==◌, ◌∙◌, ◌++◌, ◌⊎◌, inl, inr, ℕ, zero, suc, ℤ, Bool, true, false, cond, List, [], ◌∷◌, length, get_or, map, filter, take, drop, All, Any, Contains, Option, Some, None, refl, ap, sym, subst, arith, true≢false, ⊎_elim, append_assoc}
 use Rattle.std.specs.Prelude.{slice_set, slice_index}
 use Rattle.std.specs.List.{flat_map, sum_by}
 use Rattle.std.proofs.lemmas.List.Sums.{sum_by-set}
 use Rattle.std.proofs.Math.Seq.{drop-cons}
-use Rattle.std.proofs.lemmas.Bool.{eqb-true, eq-eqb, and_from}
-use Rattle.std.proofs.lemmas.List.{get_or-set_same, get_or-set_other, length-set, map-append}
+use Rattle.std.proofs.lemmas.Bool.{cases_eq, eqb-true, eqb-false, eq-eqb, and_from}
+use Rattle.std.proofs.lemmas.List.{flat_map_more, take_more, get_or-set_same, get_or-set_other, length-set, map-append}
 use Rattle.std.proofs.lemmas.List.Elements.{All-append, All-nil, All-cons, All-filter, All-map, All-contains, All-weaker, All-contains_itself, filter-append, Contains-append_left, Contains-append_right, Contains-append_cases}
 use Rattle.flow_net.specs.declared.net.Net.{Net}
 use Rattle.flow_net.specs.declared.net.Flow.{Flow}
+use Rattle.flow_net.specs.Arcs.{Arc}
 use Rattle.flow_net.specs.Flows.{pin_units, units_on}
 use Rattle.stage_flow.specs.Residual.{Way, adding, taking, ways_on, ways_of, vertex_count}
 use Rattle.stage_flow.specs.Rounds.{is_wanting}
@@ -18,7 +19,7 @@ use Rattle.stage_flow.specs.Sending.{arc_at, residual, ways_by, is_tight}
 use Rattle.stage_flow.specs.Given.{numbers_at}
 use Rattle.stage_flow.specs.Passes.{mark_at}
 use Rattle.stage_flow.specs.Mending.{IsSound}
-use Rattle.stage_flow.specs.Staleness.{LeadsAway, leads_to, tails_of, AreSpread}
+use Rattle.stage_flow.specs.Staleness.{LeadsAway, NoneLeadsAway, leads_to, tails_of, AreSpread}
 use Rattle.stage_flow.proofs.Labels.{IsLow}
 use Rattle.stage_flow.proofs.Along.{adding-there, taking-there}
 use Rattle.stage_flow.proofs.Round.{ways-low}
@@ -31,7 +32,7 @@ tails-append far hops vertex a b =
     ap (map (λ (way : Way). way.tail)) (filter-append (leads_to far hops vertex) a b) ∙ map-append (λ (way : Way). way.tail) (filter (leads_to far hops vertex) a) (filter (leads_to far hops vertex) b)
 
 -- The tail of a tight arc into a vertex is among them.
-tail-among : (far : ℕ → ℤ) (hops : ℕ → ℕ) (vertex : ℕ) (ways : List Way) (way : Way) → Contains ways way → way.head ≡ vertex → IsTight far hops way → Contains (tails_of far hops vertex ways) way.tail
+pub tail-among : (far : ℕ → ℤ) (hops : ℕ → ℕ) (vertex : ℕ) (ways : List Way) (way : Way) → Contains ways way → way.head ≡ vertex → IsTight far hops way → Contains (tails_of far hops vertex ways) way.tail
 tail-among far hops vertex [] way (k, within, is) ends tight = absurd (omega arith)
 tail-among far hops vertex (first ∷ ways) way (zero, within, is) ends tight =
     let test : leads_to far hops vertex way ≡ true = and_from (way.head == vertex) (is_tight far hops way) (eq-eqb way.head vertex ends) (tight-test far hops way tight) in
@@ -46,7 +47,7 @@ tail-among far hops vertex (first ∷ ways) way (suc k, within, is) ends tight =
     by false rest = rest
 
 -- and all of them are vertices.
-tails-low : (net : Net) (flow : Flow) (far : ℕ → ℤ) (hops : ℕ → ℕ) (vertex : ℕ) → EndsAreVertices net → All (λ tail. tail < vertex_count net) (tails_of far hops vertex (ways_near net flow vertex))
+pub tails-low : (net : Net) (flow : Flow) (far : ℕ → ℤ) (hops : ℕ → ℕ) (vertex : ℕ) → EndsAreVertices net → All (λ tail. tail < vertex_count net) (tails_of far hops vertex (ways_near net flow vertex))
 tails-low net flow far hops vertex ends =
     All-map (λ tail. tail < vertex_count net) (λ (way : Way). way.tail) (filter (leads_to far hops vertex) (ways_near net flow vertex))
     (All-filter (leads_to far hops vertex) (λ (way : Way). way.tail < vertex_count net) (ways_near net flow vertex)
@@ -74,6 +75,14 @@ mark-here marks vertex within = get_or-set_same marks vertex true false within
 mark-other : (marks : List Bool) (vertex other : ℕ) → other ≢ vertex → mark_at (slice_set marks vertex true) other ≡ mark_at marks other
 mark-other marks vertex other apart = get_or-set_other marks vertex other true false apart
 
+-- What is unmarked was so before one mark more.
+pub unmarked-before : (marks : List Bool) (vertex other : ℕ) → mark_at (slice_set marks vertex true) other ≡ false → mark_at marks other ≡ false
+unmarked-before [] vertex other is = is
+unmarked-before (mark ∷ marks) zero zero is = absurd (cc)
+unmarked-before (mark ∷ marks) zero (suc other) is = is
+unmarked-before (mark ∷ marks) (suc vertex) zero is = is
+unmarked-before (mark ∷ marks) (suc vertex) (suc other) is = unmarked-before marks vertex other is
+
 -- How many vertices are unmarked; one mark more leaves fewer.
 abbrev pub unmarked : List Bool → ℕ
 unmarked marks = sum_by (λ (mark : Bool). cond mark 0 1) marks
@@ -91,10 +100,10 @@ WasLookedAt net flow far hops marks before after found =
     (vertex : ℕ) → Contains before vertex → Contains after vertex ⊎ ((found ≡ vertex) ⊎ ((mark_at marks vertex ≡ true) ⊎ IsSound net flow far hops marks vertex))
 
 pub spread-more : (net : Net) (flow : Flow) (far : ℕ → ℤ) (hops : ℕ → ℕ) (marks : List Bool) (vertices before after : List ℕ) (found : ℕ) → EndsAreVertices net → length marks ≡ vertex_count net
-    → found < vertex_count net → is_wanting net flow found ≡ false → All (λ v. v < vertex_count net) after → WasLookedAt net flow far hops marks before after found
+    → found < vertex_count net → is_wanting net flow found ≡ false → NoneLeadsAway far hops marks found (ways_of net flow) → All (λ v. v < vertex_count net) after → WasLookedAt net flow far hops marks before after found
     → AreSpread net flow far hops marks vertices before
     → AreSpread net flow far hops (slice_set marks found true) (vertices ++ found ∷ []) (after ++ tails_of far hops found (ways_near net flow found))
-spread-more net flow far hops marks vertices before after found ends each low idle lows looked was = record {
+spread-more net flow far hops marks vertices before after found ends each low idle nowhere lows looked was = record {
   marked = record {
     low = All-append (λ v. v < vertex_count net) vertices (found ∷ []) was.marked.low (All-cons (λ v. v < vertex_count net) found [] low (All-nil (λ v. v < vertex_count net)));
     all = λ v marked. listed v marked;
@@ -102,6 +111,9 @@ spread-more net flow far hops marks vertices before after found ends each low id
   unmarked = λ v wants. mark-other marks found v (λ same. true≢false (sym wants ∙ ap (is_wanting net flow) same ∙ idle)) ∙ was.unmarked v wants;
   low = All-append (λ v. v < vertex_count net) after (tails_of far hops found near) lows (tails-low net flow far hops found ends);
   sound = λ v within none. still v within none;
+  dead =
+      All-weaker (Contains (ways_of net flow)) (λ way. IsTight far hops way → mark_at new way.tail ≡ true → mark_at new way.head ≡ true) dead-on
+      (ways_of net flow) (All-contains_itself (ways_of net flow));
 }
   where
     near : List Way
@@ -154,6 +166,23 @@ spread-more net flow far hops marks vertices before after found ends each low id
         (kept v) more) rest) (looked v was_pending))
         (kept v) (was.sound v within before_none)
 
+    -- a vertex that was marked before leads to no other, and nor does the one that is stale now
+    dead-on : (way : Way) → Contains (ways_of net flow) way → IsTight far hops way → mark_at new way.tail ≡ true → mark_at new way.head ≡ true
+    dead-on way there tight marked = by (way.head == found) refl
+      where
+        onward : (b : Bool) → (way.tail == found) ≡ b → (m : Bool) → mark_at marks way.head ≡ m → mark_at marks way.head ≡ true
+        onward b is true held = held
+        onward true same false free =
+            absurd (All-contains (λ (one : Way). LeadsAway far hops marks found one → ⊥) (ways_of net flow) way nowhere there (eqb-true way.tail found same, tight, free))
+        onward false apart false free =
+            let old = mark-other marks found way.tail (λ same. true≢false (sym (eq-eqb way.tail found same) ∙ apart)) in
+            All-contains (λ (one : Way). IsTight far hops one → mark_at marks one.tail ≡ true → mark_at marks one.head ≡ true) (ways_of net flow) way was.dead there tight (sym old ∙ marked)
+
+        by : (b : Bool) → (way.head == found) ≡ b → mark_at new way.head ≡ true
+        by true same = ap (mark_at new) (eqb-true way.head found same) ∙ mark-here marks found inside
+        by false apart =
+            mark-other marks found way.head (λ same. true≢false (sym (eq-eqb way.head found same) ∙ apart)) ∙ onward (way.tail == found) refl (mark_at marks way.head) refl
+
 -- ---- Arcs that lead on
 only-one : (x y : ℕ) → Contains (x ∷ []) y → x ≡ y
 only-one x y (zero, within, is) = is
@@ -181,6 +210,35 @@ any-by P net flow (first ∷ numbers) zero number within at (k, way, low, is, ho
 any-by P net flow (first ∷ numbers) (suc i) number within at any =
     let (k, way, low, is, holds) = any-by P net flow numbers i number (omega arith) at any in
     any-there P (ways_by net flow (first ∷ numbers)) way (Contains-append_right (ways_on flow (arc_at net first)) (ways_by net flow numbers) way (k, low, is)) holds
+
+-- None of the residual arcs on an arc passes,
+pub none-on : (P : Way → Type 0) (flow : Flow) (arc : Arc) → (P (adding arc) → ⊥) → (0 < units_on flow arc → P (taking arc) → ⊥) → All (λ way. P way → ⊥) (ways_on flow arc)
+none-on P flow arc adds takes = by (units_on flow arc == 0) refl
+  where
+    by : (b : Bool) → (units_on flow arc == 0) ≡ b → All (λ (way : Way). P way → ⊥) (adding arc ∷ cond b [] (taking arc ∷ []))
+    by true empty = All-cons (λ (way : Way). P way → ⊥) (adding arc) [] adds (All-nil (λ (way : Way). P way → ⊥))
+    by false some =
+        let units = eqb-false (units_on flow arc) 0 some in
+        let more : 0 < units_on flow arc = ⊎_elim {C = 0 < units_on flow arc} (λ same. absurd (units same)) (λ other. omega (arith, other)) (cases_eq (units_on flow arc) 0) in
+        All-cons (λ (way : Way). P way → ⊥) (adding arc) (taking arc ∷ []) adds (All-cons (λ (way : Way). P way → ⊥) (taking arc) [] (takes more) (All-nil (λ (way : Way). P way → ⊥)))
+
+-- and none of those on one arc more.
+pub none-more : (P : Way → Type 0) (net : Net) (flow : Flow) (numbers : List ℕ) (i number : ℕ) → i < length numbers → number ≡ get_or numbers i 0 → All (λ way. P way → ⊥) (ways_by net flow (take i numbers)) → All (λ way. P way → ⊥) (ways_on flow (arc_at net number))
+    → All (λ way. P way → ⊥) (ways_by net flow (take (i + 1) numbers))
+none-more P net flow numbers i number within at before here =
+    let own = get_or numbers i 0 in
+    subst (λ ns. All (λ (way : Way). P way → ⊥) (ways_by net flow ns)) (sym (take_more numbers i 0 within))
+    (subst (All (λ (way : Way). P way → ⊥)) (flat_map_more (λ n. ways_on flow (arc_at net n)) [] (take i numbers) own)
+    (All-append (λ (way : Way). P way → ⊥) (ways_by net flow (take i numbers)) (ways_on flow (arc_at net own)) before (subst (λ n. All (λ (way : Way). P way → ⊥) (ways_on flow (arc_at net n))) at here)))
+
+-- Where nothing leads away from a vertex by the arcs near it, nothing does.
+pub near-none : (net : Net) (flow : Flow) (far : ℕ → ℤ) (hops : ℕ → ℕ) (marks : List Bool) (vertex : ℕ) (numbers : List ℕ) → numbers ≡ numbers_at net vertex → NoneLeadsAway far hops marks vertex (ways_by net flow numbers) → NoneLeadsAway far hops marks vertex (ways_of net flow)
+near-none net flow far hops marks vertex numbers is none =
+    All-weaker (Contains (ways_of net flow)) (λ (way : Way). LeadsAway far hops marks vertex way → ⊥)
+    (λ way there leads.
+    All-contains (λ (one : Way). LeadsAway far hops marks vertex one → ⊥) (ways_near net flow vertex) way
+    (subst (NoneLeadsAway far hops marks vertex) (ap (ways_by net flow) is ∙ ways_by-near net flow vertex) none) (near-to net flow vertex way there (inl leads.0)) leads)
+    (ways_of net flow) (All-contains_itself (ways_of net flow))
 
 -- What leads away from a vertex by the arcs near it makes it sound.
 pub near-sound : (net : Net) (flow : Flow) (far : ℕ → ℤ) (hops : ℕ → ℕ) (marks : List Bool) (vertex : ℕ) (numbers : List ℕ) → numbers ≡ numbers_at net vertex → Any (LeadsAway far hops marks vertex) (ways_by net flow numbers) → IsSound net flow far hops marks vertex
@@ -243,4 +301,5 @@ spread-done net flow far hops marks vertices before after answer empty none look
       ⊎_elim {C = Contains [] v ⊎ IsSound net flow far hops marks v}
       (λ marked. absurd (true≢false (sym marked ∙ unmarked))) inr more) rest) (looked v pending))
       inr (was.sound v within unmarked);
+  dead = was.dead;
 }

@@ -16,3 +16,5 @@ pub mod Beginning
 pub mod Mending
 pub mod Staleness
 pub mod Waiting
+pub mod Raising
+pub mod Keeping

@@ -1,5 +1,5 @@
 -- How a round is read off labels: residual arcs by the numbers of their arcs, tight ones, and what they reach.
-use Rattle.std.specs.Prelude.{◌≡◌, ◌<◌, ◌/◌, ◌%◌, ◌^◌, ◌==◌, ◌&&◌, ◌-◌, ◌-ℤ◌, ℕ, ℤ, pos, nat_eq, Bool, true, false, cond, List, [], ◌∷◌, length, map, filter, slice_index, slice_index_or, Option, Some}
+use Rattle.std.specs.Prelude.{◌≡◌, ◌<◌, ◌/◌, ◌%◌, ◌^◌, ◌==◌, ◌&&◌, ◌-◌, ◌-ℤ◌, ℕ, ℤ, pos, nat_eq, Bool, true, false, not, cond, List, [], ◌∷◌, length, map, filter, slice_index, slice_index_or, Option, Some}
 use Rattle.std.specs.List.{flat_map}
 use Rattle.net_base.specs.Keys.{is_among}
 use Rattle.flow_net.specs.declared.net.Pin.{Pin}
@@ -12,6 +12,7 @@ use Rattle.stage_flow.specs.declared.ways.Step.{Step}
 use Rattle.stage_flow.specs.Residual.{Way, adding, taking, ways_on, ways_of, vertex_count}
 use Rattle.stage_flow.specs.Rounds.{is_reach, or_lesser, along}
 use Rattle.stage_flow.specs.LawsOfWalks.{led_by, label, EndsAreVertices, IsInLayer}
+use Rattle.stage_flow.specs.Passes.{mark_at}
 
 -- ---- Residual arcs by numbers
 -- a residual arc of the code
@@ -53,19 +54,20 @@ pub record AreRead (net : Net) (flow : Flow) (far : List ℤ) (hops : List ℕ) 
 abbrev pub is_tight : (ℕ → ℤ) → (ℕ → ℕ) → Way → Bool
 is_tight far hops way = is_reach (Some (led_by way (label far hops way.head))) (label far hops way.tail)
 
--- a residual arc is tight and leads on from a vertex
-abbrev pub leads_on : (ℕ → ℤ) → (ℕ → ℕ) → ℕ → Way → Bool
-leads_on far hops vertex way = (way.tail == vertex) && is_tight far hops way
+-- a residual arc is tight and leads on from a vertex to one that isn't marked
+abbrev pub leads_on : (ℕ → ℤ) → (ℕ → ℕ) → List Bool → ℕ → Way → Bool
+leads_on far hops marks vertex way = (way.tail == vertex) && (not (mark_at marks way.head) && is_tight far hops way)
 
--- the heads of the tight ones among residual arcs that lead on from a vertex
-abbrev pub heads_of : (ℕ → ℤ) → (ℕ → ℕ) → ℕ → List Way → List ℕ
-heads_of far hops vertex ways = map (λ (way : Way). way.head) (filter (leads_on far hops vertex) ways)
+-- the heads of those of residual arcs that do
+abbrev pub heads_of : (ℕ → ℤ) → (ℕ → ℕ) → List Bool → ℕ → List Way → List ℕ
+heads_of far hops marks vertex ways = map (λ (way : Way). way.head) (filter (leads_on far hops marks vertex) ways)
 
--- vertices are those that tight arcs reach from one, by any number of steps
-pub record AreReached (net : Net) (flow : Flow) (far : ℕ → ℤ) (hops : ℕ → ℕ) (from : ℕ) (reached : List ℕ) : Type 0 where
+-- vertices are those that tight arcs reach from one, by any number of steps, and that aren't marked
+pub record AreReached (net : Net) (flow : Flow) (far : ℕ → ℤ) (hops : ℕ → ℕ) (marks : List Bool) (from : ℕ) (reached : List ℕ) : Type 0 where
   pub found : (vertex : ℕ) → is_among nat_eq vertex reached ≡ true → (steps : ℕ) × IsInLayer far hops (ways_of net flow) from steps vertex
   pub low : (vertex : ℕ) → is_among nat_eq vertex reached ≡ true → vertex < vertex_count net
-  pub all : (vertex steps : ℕ) → IsInLayer far hops (ways_of net flow) from steps vertex → is_among nat_eq vertex reached ≡ true
+  pub fresh : (vertex : ℕ) → is_among nat_eq vertex reached ≡ true → mark_at marks vertex ≡ false
+  pub all : (vertex steps : ℕ) → IsInLayer far hops (ways_of net flow) from steps vertex → mark_at marks vertex ≡ false → is_among nat_eq vertex reached ≡ true
 
 -- ---- The path, read backwards
 -- a tight residual arc into a vertex that comes from one of those that were reached

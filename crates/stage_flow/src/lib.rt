@@ -17,8 +17,9 @@
 //! want (`specs/LawsOfSending.antt`). There are labels in each round, so the rounds make a full flow, and some epochs have the
 //! fewest DROs, as many as that flow is worth (`specs/LawsOfRounds.antt`). Potentials that fit a full flow give such epochs; the
 //! lengths of longest walks from the source are the least of these; and there are no two least ones (`specs/LawsOfEpochs.antt`).
-//! Lengths that a search from the source finds are tested, and where they failed their test plain passes over all arcs would find
-//! them (`src/passes.rt`). Not promised: time.
+//! Labels are kept from round to round. Those that a round leaves stale are marked, and put right only where a path needs them
+//! (`src/mender.rt`). Lengths that a search from the source finds are tested, and where they failed their test plain passes over
+//! all arcs would find them (`src/passes.rt`). Not promised: time.
 //!
 //! Source: successive shortest paths (Jewell 1958; Busacker and Gowen 1960), with lengths maximised, and complementary slackness
 //! of linear programs. The labels towards the mirrors that want, which serve all senders, and the ties are our own.
@@ -27,6 +28,7 @@
 mod beginning;
 mod epochs;
 mod frontier;
+mod heights;
 mod incidence;
 mod last_arcs;
 mod laws_of_epochs;
@@ -40,6 +42,8 @@ mod offers;
 mod passes;
 mod potentials;
 mod progress;
+mod raising;
+mod reviving;
 mod search;
 mod senders;
 mod sending;

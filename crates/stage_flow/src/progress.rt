@@ -85,6 +85,7 @@ impl Progress {
             net,
             &self.incidence,
             &labels,
+            &[],
             from,
             &mut self.flow,
             &mut room,

@@ -56,7 +56,7 @@ pub(crate) fn find_labels(
     let labels = first_labels(alloc, wanting, potentials.as_slice())?;
     let mut stale = others_of(alloc, wanting)?;
     let vertices = marked(alloc, net, stale.as_slice())?;
-    let mut queue = Queue::new(alloc);
+    let mut queue = Queue::new(alloc)?;
     settle(
         net,
         incidence,

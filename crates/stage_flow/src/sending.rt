@@ -1,13 +1,15 @@
 //! One round, given labels: the receiver, the path, and one unit along it.
 
-ghost use Rattle.std.specs.Prelude.{◌≡◌, ◌<◌, ◌-◌, ◌^◌, Some, length, map, All, OnOk, OnErr};
+ghost use Rattle.std.specs.Prelude.{◌≡◌, ◌<◌, ◌-◌, ◌^◌, Some, false, length, map, All, OnOk, OnErr};
 ghost use Rattle.flow_net.specs.declared.net.Units.{Units as TheUnits};
 ghost use Rattle.stage_flow.specs.Residual.{vertex_count};
 ghost use Rattle.stage_flow.specs.Rounds.{sender, path_of, after_round};
 ghost use Rattle.stage_flow.specs.Given.{IsNetwork, AreIncidences, at_vertex, count_at};
 ghost use Rattle.stage_flow.specs.Rounds as rounds;
-ghost use Rattle.stage_flow.specs.LawsOfWalks.{AreLabels, HasUnits};
+ghost use Rattle.stage_flow.specs.LawsOfWalks.{HasUnits};
+ghost use Rattle.stage_flow.specs.Passes.{mark_at};
 ghost use Rattle.stage_flow.specs.Sending.{way_of, side, HasRoom};
+ghost use Rattle.stage_flow.specs.Staleness.{AreKept};
 
 use crate::incidence::Incidence;
 use crate::search::Labels;
@@ -60,13 +62,14 @@ fn send_along(units: &mut [Units], path: &[Step])
     }
 }
 
-/// Sends one unit from the sender, along the path that the labels show, which is left in the room. After `NoMemory` the flow is
-/// unchanged.
+/// Sends one unit from the sender, which isn't marked, along the path that the labels show, which is left in the room. After `NoMemory`
+/// the flow is unchanged.
 pub(crate) fn send(
     alloc: Global,
     net: &Net,
     incidence: &Incidence,
     labels: &Labels,
+    marks: &[bool],
     from: u32,
     flow: &mut Flow,
     room: &mut PathRoom,
@@ -74,7 +77,8 @@ pub(crate) fn send(
     requires net { IsNetwork net.now }
     requires incidence { AreIncidences net.now incidence.now }
     requires units { HasUnits net.now flow.old }
-    requires labels { AreLabels net.now flow.old (at_vertex labels.now.far) (count_at labels.now.hops) }
+    requires kept { AreKept net.now flow.old (at_vertex labels.now.far) (count_at labels.now.hops) marks.now }
+    requires fresh { mark_at marks.now from ≡ false }
     requires each { (length labels.now.far ≡ vertex_count net.now) × (length labels.now.hops ≡ vertex_count net.now) }
     requires sender { sender net.now flow.old ≡ Some from }
     requires room { All (λ (units : TheUnits). (units.forward < 2 ^ 32 - 1) × (units.back < 2 ^ 32 - 1)) flow.old.pins }
@@ -82,7 +86,7 @@ pub(crate) fn send(
     ensures path { OnOk result (map way_of room.new.path.items ≡ path_of net.now flow.old (Some from)) }
     ensures err { OnErr result (flow.new ≡ flow.old) }
 {
-    find_path(net, incidence, flow, labels, from, room)?;
+    find_path(net, incidence, flow, labels, marks, from, room)?;
     // All memory is taken, so from here on nothing fails.
     let pins = replace(&mut flow.pins, List::new(alloc));
     let mut units = pins.into_vec();

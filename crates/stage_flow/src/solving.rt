@@ -1,6 +1,6 @@
 //! All rounds, and the least epochs.
 
-ghost use Rattle.std.specs.Prelude.{◌≡◌, ◌≤◌, ◌<◌, ◌+◌, ℕ, pos, length, IfOk, OnOk};
+ghost use Rattle.std.specs.Prelude.{◌≡◌, ◌≤◌, ◌<◌, ◌+◌, ℕ, pos, false, length, IfOk, OnOk};
 ghost use Rattle.flow_net.specs.Epochs.{epoch_at, dro_count as count_of};
 ghost use Rattle.flow_net.specs.Flows.{IsFullFlow, flow_value};
 ghost use Rattle.stage_flow.specs.Residual.{vertex_count};
@@ -8,7 +8,8 @@ ghost use Rattle.stage_flow.specs.Rounds.{flow_after, rounds_of};
 ghost use Rattle.stage_flow.specs.LawsOfWalks.{AreLabels};
 ghost use Rattle.stage_flow.specs.LeastEpochs.{AreLeastEpochs};
 ghost use Rattle.stage_flow.specs.RoundEpochs.{least_epochs as the_least_epochs};
-ghost use Rattle.stage_flow.specs.Staleness.{NoneIsMarked};
+ghost use Rattle.stage_flow.specs.Passes.{mark_at};
+ghost use Rattle.stage_flow.specs.Keeping.{IsInOrder};
 ghost use Rattle.stage_flow.specs.Given.{IsNetwork, ArePotentials, AreIncidences, at_vertex, count_at};
 
 use crate::epochs::{epochs_from, epochs_without_pins};
@@ -35,8 +36,8 @@ pub struct Solved {
     pub count: u64,
 }
 
-// Makes all rounds, as many as there are drivers, and answers potentials that fit the flow they make. The labels are kept from
-// round to round, and mended where a round left them stale; those from before the last round serve as potentials.
+// Makes all rounds, as many as there are drivers, and answers potentials that fit the flow they make: how far vertices are by labels,
+// negated. The labels are kept from round to round, with those marked that rounds left stale.
 fn make_rounds(
     alloc: Global,
     net: &Net,
@@ -48,24 +49,40 @@ fn make_rounds(
 ) -> Result<List<i64>, NoMemory>
     requires net { IsNetwork net.now }
     requires incidence { AreIncidences net.now incidence.now }
-    requires some { 0 < net.now.drivers }
     requires flow { flow.old ≡ flow_after net.now 0 }
     requires labels { AreLabels net.now flow.old (at_vertex first.far) (count_at first.hops) }
     requires each { (length first.far ≡ vertex_count net.now) × (length first.hops ≡ vertex_count net.now) }
-    requires none { NoneIsMarked net.now mender.old.marks.items }
+    requires order { IsInOrder net.now mender.old }
+    requires none { (vertex : ℕ) → mark_at mender.old.marks.items vertex ≡ false }
     ensures flow { OnOk result (flow.new ≡ rounds_of net.now) }
     ensures potentials { IfOk result (λ potentials. ArePotentials net.now flow.new potentials) }
 {
     let mut labels = first;
     let mut sent = 0;
-    while sent + 1 < net.drivers {
+    while sent < net.drivers {
         let from = sender(net, sent);
-        send(alloc, net, incidence, &labels, from, flow, room)?;
-        labels = mender.mend(net, incidence, flow, labels, room.path.as_slice(), from)?;
+        labels = mender.ready(net, incidence, flow, labels, from)?;
+        send(
+            alloc,
+            net,
+            incidence,
+            &labels,
+            mender.marks.as_slice(),
+            from,
+            flow,
+            room,
+        )?;
+        mender.spoil(
+            alloc,
+            net,
+            incidence,
+            flow,
+            &labels,
+            room.path.as_slice(),
+            from,
+        )?;
         sent += 1;
     }
-    let from = sender(net, sent);
-    send(alloc, net, incidence, &labels, from, flow, room)?;
     negated(alloc, labels.far.as_slice())
 }
 

@@ -3,6 +3,7 @@
 //! A label stands as long as a tight arc leads on to a vertex whose label stands, or the vertex wants a unit. The round took arcs
 //! away along its path alone, and its receiver wants no more. So these vertices are looked at first; where one is found stale, so
 //! are the tails of the tight arcs into it. Each vertex is marked once, and only arcs at vertices that were looked at are read.
+//! Those that were marked before stay so.
 
 ghost use Rattle.std.specs.Prelude.{◌≡◌, ◌<◌, ◌/◌, ◌++◌, ◌==◌, ◌&&◌, ◌⊎◌, ℕ, [], ◌∷◌, true, false, not, All, Any, Contains, IsTrue, length, OnOk, IfSome, Some, None};
 ghost use Rattle.stage_flow.specs.Residual.{ways_on, ways_of, vertex_count};
@@ -12,7 +13,7 @@ ghost use Rattle.stage_flow.specs.Given.{AreIncidences, at_vertex, count_at};
 ghost use Rattle.stage_flow.specs.Sending.{way_of, arc_at, ways_by, AreRead};
 ghost use Rattle.stage_flow.specs.Passes.{mark_at};
 ghost use Rattle.stage_flow.specs.Mending.{IsSound, AreMarked};
-ghost use Rattle.stage_flow.specs.Staleness.{SayWhoWaits, LeadsAway, leads_to, tails_of, AreSpread};
+ghost use Rattle.stage_flow.specs.Staleness.{SayWhoWaits, LeadsAway, NoneLeadsAway, leads_to, tails_of, AreSpread};
 
 use crate::incidence::Incidence;
 use crate::offers::is_marked;
@@ -26,7 +27,8 @@ fn leads_away(labels: &Labels, marks: &[bool], vertex: u32, step: Step) -> bool
     requires far { (step.tail < length labels.now.far) × (step.head < length labels.now.far) }
     requires hops { (step.tail < length labels.now.hops) × (step.head < length labels.now.hops) }
     requires marks { step.head < length marks.now }
-    ensures { IsTrue result → LeadsAway (at_vertex labels.now.far) (count_at labels.now.hops) marks.now vertex (way_of step) }
+    ensures away { IsTrue result → LeadsAway (at_vertex labels.now.far) (count_at labels.now.hops) marks.now vertex (way_of step) }
+    ensures none { result ≡ false → LeadsAway (at_vertex labels.now.far) (count_at labels.now.hops) marks.now vertex (way_of step) → ⊥ }
 {
     step.tail == vertex && !marks[step.head as usize] && is_tight(labels, step)
 }
@@ -43,7 +45,8 @@ fn leads_away_over(
     requires read { AreRead net.now flow.now labels.now.far labels.now.hops }
     requires marks { length marks.now ≡ vertex_count net.now }
     requires pin { number / 2 < length net.now.pins }
-    ensures { IsTrue result → Any (LeadsAway (at_vertex labels.now.far) (count_at labels.now.hops) marks.now vertex) (ways_on flow.now (arc_at net.now number)) }
+    ensures away { IsTrue result → Any (LeadsAway (at_vertex labels.now.far) (count_at labels.now.hops) marks.now vertex) (ways_on flow.now (arc_at net.now number)) }
+    ensures none { result ≡ false → NoneLeadsAway (at_vertex labels.now.far) (count_at labels.now.hops) marks.now vertex (ways_on flow.now (arc_at net.now number)) }
 {
     let step = step_at(net, number, false);
     // Where the arc itself leaves the vertex, its reverse enters it, and units needn't be read.
@@ -57,8 +60,8 @@ fn leads_away_over(
     units_at(flow, number) > 0 && leads_away(labels, marks, vertex, step_at(net, number, true))
 }
 
-// Whether one of the residual arcs on these arcs does.
-fn leads_away_from(
+/// Whether one of the residual arcs on these arcs does.
+pub(crate) fn leads_away_from(
     net: &Net,
     flow: &Flow,
     labels: &Labels,
@@ -69,7 +72,8 @@ fn leads_away_from(
     requires read { AreRead net.now flow.now labels.now.far labels.now.hops }
     requires marks { length marks.now ≡ vertex_count net.now }
     requires pins { All (λ number. number / 2 < length net.now.pins) numbers.now }
-    ensures { IsTrue result → Any (LeadsAway (at_vertex labels.now.far) (count_at labels.now.hops) marks.now vertex) (ways_by net.now flow.now numbers.now) }
+    ensures away { IsTrue result → Any (LeadsAway (at_vertex labels.now.far) (count_at labels.now.hops) marks.now vertex) (ways_by net.now flow.now numbers.now) }
+    ensures none { result ≡ false → NoneLeadsAway (at_vertex labels.now.far) (count_at labels.now.hops) marks.now vertex (ways_by net.now flow.now numbers.now) }
 {
     for number in numbers {
         if leads_away_over(net, flow, labels, marks, vertex, *number) {
@@ -100,10 +104,12 @@ fn is_sound(
     requires read { AreRead net.now flow.now labels.now.far labels.now.hops }
     requires incidence { AreIncidences net.now incidence.now }
     requires marks { length marks.now ≡ vertex_count net.now }
-    requires waits { SayWhoWaits net.now flow.now (count_at labels.now.hops) served }
+    requires waits { SayWhoWaits net.now flow.now (count_at labels.now.hops) marks.now served }
     requires vertex { vertex < vertex_count net.now }
+    requires unmarked { mark_at marks.now vertex ≡ false }
     ensures sound { IsTrue result → IsSound net.now flow.now (at_vertex labels.now.far) (count_at labels.now.hops) marks.now vertex }
     ensures wants { is_wanting net.now flow.now vertex ≡ true → IsTrue result }
+    ensures none { result ≡ false → NoneLeadsAway (at_vertex labels.now.far) (count_at labels.now.hops) marks.now vertex (ways_of net.now flow.now) }
 {
     if waits(labels, served, vertex) {
         return true;
@@ -124,9 +130,9 @@ fn is_newly_stale(
     requires read { AreRead net.now flow.now labels.now.far labels.now.hops }
     requires incidence { AreIncidences net.now incidence.now }
     requires marks { length marks.now ≡ vertex_count net.now }
-    requires waits { SayWhoWaits net.now flow.now (count_at labels.now.hops) served }
+    requires waits { SayWhoWaits net.now flow.now (count_at labels.now.hops) marks.now served }
     requires vertex { vertex < vertex_count net.now }
-    ensures stale { IsTrue result → (mark_at marks.now vertex ≡ false) × (is_wanting net.now flow.now vertex ≡ false) }
+    ensures stale { IsTrue result → (mark_at marks.now vertex ≡ false) × (is_wanting net.now flow.now vertex ≡ false) × NoneLeadsAway (at_vertex labels.now.far) (count_at labels.now.hops) marks.now vertex (ways_of net.now flow.now) }
     ensures other { result ≡ false → (mark_at marks.now vertex ≡ true) ⊎ IsSound net.now flow.now (at_vertex labels.now.far) (count_at labels.now.hops) marks.now vertex }
 {
     if marks[vertex as usize] {
@@ -148,9 +154,9 @@ fn next_stale(
     requires read { AreRead net.now flow.now labels.now.far labels.now.hops }
     requires incidence { AreIncidences net.now incidence.now }
     requires marks { length marks.now ≡ vertex_count net.now }
-    requires waits { SayWhoWaits net.now flow.now (count_at labels.now.hops) served }
+    requires waits { SayWhoWaits net.now flow.now (count_at labels.now.hops) marks.now served }
     requires low { All (λ vertex. vertex < vertex_count net.now) pending.old.items }
-    ensures found { IfSome result (λ vertex. (vertex < vertex_count net.now) × (mark_at marks.now vertex ≡ false) × (is_wanting net.now flow.now vertex ≡ false)) }
+    ensures found { IfSome result (λ vertex. (vertex < vertex_count net.now) × (mark_at marks.now vertex ≡ false) × (is_wanting net.now flow.now vertex ≡ false) × NoneLeadsAway (at_vertex labels.now.far) (count_at labels.now.hops) marks.now vertex (ways_of net.now flow.now)) }
     ensures low { All (λ vertex. vertex < vertex_count net.now) pending.new.items }
     ensures looked { (vertex : ℕ) → Contains pending.old.items vertex → Contains pending.new.items vertex ⊎ ((result ≡ Some vertex) ⊎ ((mark_at marks.now vertex ≡ true) ⊎ IsSound net.now flow.now (at_vertex labels.now.far) (count_at labels.now.hops) marks.now vertex)) }
     ensures none { result ≡ None → pending.new.items ≡ [] }
@@ -205,8 +211,8 @@ fn push_tails_over(
     Ok(())
 }
 
-// Adds the tails of those of the residual arcs on these arcs.
-fn push_tails(
+/// Adds the tails of those of the residual arcs on these arcs.
+pub(crate) fn push_tails(
     net: &Net,
     flow: &Flow,
     labels: &Labels,
@@ -238,7 +244,7 @@ pub(crate) fn spread(
     requires read { AreRead net.now flow.now labels.now.far labels.now.hops }
     requires incidence { AreIncidences net.now incidence.now }
     requires marks { length marks.old ≡ vertex_count net.now }
-    requires waits { SayWhoWaits net.now flow.now (count_at labels.now.hops) served }
+    requires waits { SayWhoWaits net.now flow.now (count_at labels.now.hops) marks.old served }
     requires spread { AreSpread net.now flow.now (at_vertex labels.now.far) (count_at labels.now.hops) marks.old vertices.old.items pending.old.items }
     ensures each { length marks.new ≡ length marks.old }
     ensures spread { OnOk result (AreSpread net.now flow.now (at_vertex labels.now.far) (count_at labels.now.hops) marks.new vertices.new.items []) }

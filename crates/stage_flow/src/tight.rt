@@ -3,19 +3,22 @@
 //! Each tight arc leads one arc nearer, so a vertex that was reached is in one layer only, which its label tells. So the order of
 //! the search doesn't matter, no layer is kept, and what was reached is found once. A vertex of the last layer has no arcs to go
 //! and wants a unit; the least one receives. Before a vertex comes the least tail of tight arcs into it that was reached, by the
-//! lowest arc between the two. Only arcs at vertices that were reached are looked at.
+//! lowest arc between the two. Only arcs at vertices that were reached are looked at. Marked vertices are stale, and dead: no tight
+//! arc leads on from them to a mirror that wants, so they are passed over.
 
-ghost use Rattle.std.specs.Prelude.{◌≡◌, ◌≤◌, ◌<◌, ◌-◌, ◌/◌, ◌^◌, ◌⊎◌, ℕ, [], ◌∷◌, nat_eq, All, Contains, length, map, OnOk, Some, None};
+ghost use Rattle.std.specs.Prelude.{◌≡◌, ◌≤◌, ◌<◌, ◌-◌, ◌/◌, ◌^◌, ◌⊎◌, ℕ, false, [], ◌∷◌, nat_eq, All, Contains, length, map, OnOk, Some, None};
 ghost use Rattle.std.specs.Option.{option_map};
 ghost use Rattle.indexmap.specs.IndexSet.{insert_all};
 ghost use Rattle.net_base.specs.Keys.{is_among};
 ghost use Rattle.stage_flow.specs.Residual.{ways_on, vertex_count};
 ghost use Rattle.stage_flow.specs.Rounds.{path_of};
-ghost use Rattle.stage_flow.specs.LawsOfWalks.{AreLabels};
+ghost use Rattle.stage_flow.specs.Passes.{mark_at};
+ghost use Rattle.stage_flow.specs.Staleness.{AreDead, AreKept};
 ghost use Rattle.stage_flow.specs.Given.{AreIncidences, at_vertex, count_at};
 ghost use Rattle.stage_flow.specs.Sending.{way_of, arc_at, ways_by, AreRead, AreReached, heads_of, comes_last, least_by};
 
 use crate::incidence::Incidence;
+use crate::offers::is_marked;
 use crate::search::Labels;
 use crate::ways::{Step, is_tight, step_at, units_at};
 use flow_net::{Flow, Net};
@@ -23,86 +26,100 @@ use indexmap::IndexSet;
 use net_base::NoMemory;
 use std::alloc::Global;
 
-// Adds the head of a residual arc to what was reached, if it is tight and leaves a vertex.
+// Adds the head of a residual arc to what was reached, if the arc is tight and leaves a vertex, and the head isn't marked.
 fn reach_by(
     labels: &Labels,
+    marks: &[bool],
     vertex: u32,
     step: Step,
     reached: &mut IndexSet<u32>,
 ) -> Result<(), NoMemory>
     requires far { (step.tail < length labels.now.far) × (step.head < length labels.now.far) }
     requires hops { (step.tail < length labels.now.hops) × (step.head < length labels.now.hops) }
-    ensures { OnOk result (reached.new.keys ≡ insert_all nat_eq reached.old.keys (heads_of (at_vertex labels.now.far) (count_at labels.now.hops) vertex (way_of step ∷ []))) }
+    ensures { OnOk result (reached.new.keys ≡ insert_all nat_eq reached.old.keys (heads_of (at_vertex labels.now.far) (count_at labels.now.hops) marks.now vertex (way_of step ∷ []))) }
 {
-    if step.tail == vertex && is_tight(labels, step) {
+    if step.tail == vertex && !is_marked(marks, step.head) && is_tight(labels, step) {
         reached.insert(step.head)?;
     }
     Ok(())
 }
 
-// Adds the heads of the tight residual arcs on an arc that leave a vertex.
+// Adds the unmarked heads of the tight residual arcs on an arc that leave a vertex.
 fn reach_over(
     net: &Net,
     flow: &Flow,
     labels: &Labels,
+    marks: &[bool],
     vertex: u32,
     number: u32,
     reached: &mut IndexSet<u32>,
 ) -> Result<(), NoMemory>
     requires read { AreRead net.now flow.now labels.now.far labels.now.hops }
     requires pin { number / 2 < length net.now.pins }
-    ensures { OnOk result (reached.new.keys ≡ insert_all nat_eq reached.old.keys (heads_of (at_vertex labels.now.far) (count_at labels.now.hops) vertex (ways_on flow.now (arc_at net.now number)))) }
+    ensures { OnOk result (reached.new.keys ≡ insert_all nat_eq reached.old.keys (heads_of (at_vertex labels.now.far) (count_at labels.now.hops) marks.now vertex (ways_on flow.now (arc_at net.now number)))) }
 {
     let step = step_at(net, number, false);
-    reach_by(labels, vertex, step, reached)?;
+    reach_by(labels, marks, vertex, step, reached)?;
     // A reverse leaves the head. Where that is another vertex, units needn't be read.
     if step.head != vertex {
         return Ok(());
     }
     if units_at(flow, number) > 0 {
-        reach_by(labels, vertex, step_at(net, number, true), reached)?;
+        reach_by(labels, marks, vertex, step_at(net, number, true), reached)?;
     }
     Ok(())
 }
 
-// Adds the heads of the tight residual arcs on these arcs that leave a vertex.
+// Adds the unmarked heads of the tight residual arcs on these arcs that leave a vertex.
 fn reach_from(
     net: &Net,
     flow: &Flow,
     labels: &Labels,
+    marks: &[bool],
     vertex: u32,
     numbers: &[u32],
     reached: &mut IndexSet<u32>,
 ) -> Result<(), NoMemory>
     requires read { AreRead net.now flow.now labels.now.far labels.now.hops }
     requires pins { All (λ number. number / 2 < length net.now.pins) numbers.now }
-    ensures { OnOk result (reached.new.keys ≡ insert_all nat_eq reached.old.keys (heads_of (at_vertex labels.now.far) (count_at labels.now.hops) vertex (ways_by net.now flow.now numbers.now))) }
+    ensures { OnOk result (reached.new.keys ≡ insert_all nat_eq reached.old.keys (heads_of (at_vertex labels.now.far) (count_at labels.now.hops) marks.now vertex (ways_by net.now flow.now numbers.now))) }
 {
     for number in numbers {
-        reach_over(net, flow, labels, vertex, *number, reached)?;
+        reach_over(net, flow, labels, marks, vertex, *number, reached)?;
     }
     Ok(())
 }
 
-// Adds all that tight arcs reach from a vertex that alone is there.
+// Adds all unmarked vertices that tight arcs reach from a vertex that alone is there.
 fn reach_all(
     net: &Net,
     incidence: &Incidence,
     flow: &Flow,
     labels: &Labels,
+    marks: &[bool],
     from: u32,
     reached: &mut IndexSet<u32>,
 ) -> Result<(), NoMemory>
     requires read { AreRead net.now flow.now labels.now.far labels.now.hops }
     requires incidence { AreIncidences net.now incidence.now }
+    requires dead { AreDead net.now flow.now (at_vertex labels.now.far) (count_at labels.now.hops) marks.now }
     requires vertex { from < vertex_count net.now }
+    requires fresh { mark_at marks.now from ≡ false }
     requires alone { reached.old.keys ≡ from ∷ [] }
-    ensures { OnOk result (AreReached net.now flow.now (at_vertex labels.now.far) (count_at labels.now.hops) from reached.new.keys) }
+    ensures { OnOk result (AreReached net.now flow.now (at_vertex labels.now.far) (count_at labels.now.hops) marks.now from reached.new.keys) }
 {
     let mut next = 0;
     while next < reached.len() {
         let vertex = reached.as_slice()[next];
-        reach_from(net, flow, labels, vertex, incidence.at(vertex), reached)?;
+        reach_from(
+            net,
+            flow,
+            labels,
+            marks,
+            vertex,
+            incidence.at(vertex),
+            reached,
+        )?;
         next += 1;
     }
     Ok(())
@@ -203,15 +220,17 @@ fn read_path(
     incidence: &Incidence,
     flow: &Flow,
     labels: &Labels,
+    marks: &[bool],
     reached: &IndexSet<u32>,
     from: u32,
     path: &mut Vec<Step>,
 ) -> Result<(), NoMemory>
     requires read { AreRead net.now flow.now labels.now.far labels.now.hops }
     requires incidence { AreIncidences net.now incidence.now }
-    requires labels { AreLabels net.now flow.now (at_vertex labels.now.far) (count_at labels.now.hops) }
+    requires kept { AreKept net.now flow.now (at_vertex labels.now.far) (count_at labels.now.hops) marks.now }
     requires vertex { from < vertex_count net.now }
-    requires reached { AreReached net.now flow.now (at_vertex labels.now.far) (count_at labels.now.hops) from reached.now.keys }
+    requires fresh { mark_at marks.now from ≡ false }
+    requires reached { AreReached net.now flow.now (at_vertex labels.now.far) (count_at labels.now.hops) marks.now from reached.now.keys }
     requires empty { path.old.items ≡ [] }
     ensures { OnOk result (map way_of path.new.items ≡ path_of net.now flow.now (Some from)) }
 {
@@ -248,30 +267,33 @@ impl PathRoom {
     }
 }
 
-/// Finds the path of a round: from the sender to the receiver.
+/// Finds the path of a round: from the sender, which isn't marked, to the receiver.
 pub(crate) fn find_path(
     net: &Net,
     incidence: &Incidence,
     flow: &Flow,
     labels: &Labels,
+    marks: &[bool],
     from: u32,
     room: &mut PathRoom,
 ) -> Result<(), NoMemory>
     requires read { AreRead net.now flow.now labels.now.far labels.now.hops }
     requires incidence { AreIncidences net.now incidence.now }
-    requires labels { AreLabels net.now flow.now (at_vertex labels.now.far) (count_at labels.now.hops) }
+    requires kept { AreKept net.now flow.now (at_vertex labels.now.far) (count_at labels.now.hops) marks.now }
     requires vertex { from < vertex_count net.now }
+    requires fresh { mark_at marks.now from ≡ false }
     ensures { OnOk result (map way_of room.new.path.items ≡ path_of net.now flow.now (Some from)) }
 {
     room.reached.clear();
     room.reached.insert(from)?;
-    reach_all(net, incidence, flow, labels, from, &mut room.reached)?;
+    reach_all(net, incidence, flow, labels, marks, from, &mut room.reached)?;
     room.path.clear();
     read_path(
         net,
         incidence,
         flow,
         labels,
+        marks,
         &room.reached,
         from,
         &mut room.path,

@@ -4,7 +4,7 @@ use Rattle.flow_net.specs.declared.net.Units.{Units}
 use Rattle.stage_flow.specs.Rounds.{path_of, sent_along}
 use Rattle.stage_flow.specs.Given.{at_vertex, count_at}
 use Rattle.stage_flow.specs.Sending.{way_of, HasRoom}
-use Rattle.stage_flow.proofs.Labels.{labels-for}
+use Rattle.stage_flow.proofs.FreshLabels.{fresh-labels_for}
 use Rattle.stage_flow.proofs.Round.{ways-low, sender-low, after_round-is, rounds_go_by_labels}
 use Rattle.stage_flow.proofs.ProgressNetworks.{vertices-few, ends-among}
 use Rattle.stage_flow.proofs.SendingUnits.{has_room}
@@ -29,7 +29,7 @@ send_along-requires c =
     let far = at_vertex c.args.labels.now.far in
     let hops = count_at c.args.labels.now.hops in
     let (mirror, round) = rounds_go_by_labels net flow far hops c.args.from (ends-among net c.requires.net) c.requires.units
-    (labels-for net flow far hops c.requires.labels (ways-low net flow (ends-among net c.requires.net)) c.args.from (sender-low net flow c.args.from c.requires.sender)) c.requires.sender in
+    (fresh-labels_for net flow far hops c.args.marks.now c.requires.kept.right (ways-low net flow (ends-among net c.requires.net)) c.args.from (sender-low net flow c.args.from c.requires.sender) c.requires.fresh) c.requires.sender in
     let room = has_room net far hops flow c.args.from mirror (path_of net flow (Some c.args.from)) c.requires.units c.requires.room round.path in
     let path = ap (map way_of) c.as_slice.ensures.value ∙ c.in_ok-find_path.ensures in
     let units = c.as_mut_slice.ensures.value ∙ c.into_vec-units.ensures ∙ c.replace-pins.ensures.value in

@@ -4,7 +4,7 @@ use Rattle.stage_flow.specs.Given.{at_vertex, count_at}
 use Rattle.stage_flow.specs.Sending.{ways_by}
 use Rattle.stage_flow.specs.Staleness.{tails_of, AreSpread}
 use Rattle.stage_flow.proofs.SendingSearch.{ways_near, numbers-low, ways_by-near}
-use Rattle.stage_flow.proofs.StaleVertices.{length-marked, spread-more, found-one, spread-done}
+use Rattle.stage_flow.proofs.StaleVertices.{unmarked-before, length-marked, spread-more, found-one, spread-done}
 use Rattle.stage_flow.proofs.stale.spread.Goals as goal
 
 pub push_tails-requires-clause-pins : goal.push_tails-requires-clause-pins
@@ -27,10 +27,11 @@ loop-vertex-preserved c =
     let each : length c.loop-vertex.marks ≡ length c.args.marks.now = c.loop-vertex.invariant.each in
     record {
       each = length-marked c.loop-vertex.marks found ∙ each;
+      waits = λ vertex within none. c.loop-vertex.invariant.waits vertex within (unmarked-before c.loop-vertex.marks found vertex none);
       spread = subst (λ pending. AreSpread net flow far hops (slice_set c.loop-vertex.marks found true) c.push.new.self.items pending) (sym tails)
           (subst (λ vertices. AreSpread net flow far hops (slice_set c.loop-vertex.marks found true) vertices (after ++ tails_of far hops found (ways_near net flow found))) (sym c.in_ok-push.ensures.items)
           (spread-more net flow far hops c.loop-vertex.marks c.loop-vertex.vertices.items c.loop-vertex.pending.items after found c.requires.read.ends (each ∙ c.requires.marks)
-          low c.in-Some.ensures.found.2 c.in-Some.ensures.low (found-one net flow far hops c.loop-vertex.marks c.loop-vertex.pending.items after found c.in-Some.ensures.looked) c.loop-vertex.invariant.spread));
+          low c.in-Some.ensures.found.2 c.in-Some.ensures.found.3 c.in-Some.ensures.low (found-one net flow far hops c.loop-vertex.marks c.loop-vertex.pending.items after found c.in-Some.ensures.looked) c.loop-vertex.invariant.spread));
     }
 
 pub returns-clause-spread : goal.returns-clause-spread

@@ -7,7 +7,7 @@ use Rattle.stage_flow.proofs.tight.reach_all.Goals as goal
 
 pub loop-next-init : goal.loop-next-init
 loop-next-init c =
-    reaches-first c.args.net.now c.args.flow.now (at_vertex c.args.labels.now.far) (count_at c.args.labels.now.hops) c.args.from c.args.reached.now.keys c.requires.alone c.requires.vertex
+    reaches-first c.args.net.now c.args.flow.now (at_vertex c.args.labels.now.far) (count_at c.args.labels.now.hops) c.args.marks.now c.args.from c.args.reached.now.keys c.requires.alone c.requires.vertex c.requires.fresh
 
 pub at-requires : goal.at-requires
 at-requires c =
@@ -30,7 +30,7 @@ reach_from-requires-clause-pins c =
 
 pub loop-next-smaller : goal.loop-next-smaller
 loop-next-smaller c =
-    omega (arith, c.len.ensures.len, c.loop-next-test.true, reaches-few c.args.net.now c.args.flow.now (at_vertex c.args.labels.now.far) (count_at c.args.labels.now.hops) c.args.from c.loop-next.reached.keys c.loop-next.next c.len.ensures.unique c.loop-next.invariant)
+    omega (arith, c.len.ensures.len, c.loop-next-test.true, reaches-few c.args.net.now c.args.flow.now (at_vertex c.args.labels.now.far) (count_at c.args.labels.now.hops) c.args.marks.now c.args.from c.loop-next.reached.keys c.loop-next.next c.len.ensures.unique c.loop-next.invariant)
 
 pub loop-next-preserved : goal.loop-next-preserved
 loop-next-preserved c =
@@ -43,12 +43,12 @@ loop-next-preserved c =
     let here : vertex ≡ get_or keys c.loop-next.next 0 = ap (λ xs. get_or xs c.loop-next.next 0) c.as_slice.ensures.keys in
     let within : c.loop-next.next < length keys = omega (arith, c.len.ensures.len, c.loop-next-test.true) in
     let low = c.loop-next.invariant.low vertex (at-among keys c.loop-next.next vertex within here) in
-    reaches-next net flow far hops c.args.from keys c.loop-next.next vertex c.reach_from.new.reached.keys c.requires.read.ends within here
+    reaches-next net flow far hops c.args.marks.now c.args.from keys c.loop-next.next vertex c.reach_from.new.reached.keys c.requires.read.ends within here
     (c.in_ok-reach_from.ensures
-    ∙ ap (λ numbers. insert_all nat_eq keys (heads_of far hops vertex (ways_by net flow numbers))) (c.at.ensures ∙ c.requires.incidence.at vertex low)
-    ∙ ap (λ ways. insert_all nat_eq keys (heads_of far hops vertex ways)) (ways_by-near net flow vertex))
+    ∙ ap (λ numbers. insert_all nat_eq keys (heads_of far hops c.args.marks.now vertex (ways_by net flow numbers))) (c.at.ensures ∙ c.requires.incidence.at vertex low)
+    ∙ ap (λ ways. insert_all nat_eq keys (heads_of far hops c.args.marks.now vertex ways)) (ways_by-near net flow vertex))
     c.loop-next.invariant
 
 pub returns : goal.returns
 returns c =
-    reaches-all c.args.net.now c.args.flow.now (at_vertex c.args.labels.now.far) (count_at c.args.labels.now.hops) c.args.from c.loop-next.reached.keys c.loop-next.next (omega (arith, c.len.ensures.len, c.loop-next-test.false)) c.loop-next.invariant
+    reaches-all c.args.net.now c.args.flow.now (at_vertex c.args.labels.now.far) (count_at c.args.labels.now.hops) c.args.marks.now c.args.from c.loop-next.reached.keys c.loop-next.next c.requires.dead (omega (arith, c.len.ensures.len, c.loop-next-test.false)) c.loop-next.invariant

@@ -5,7 +5,7 @@ use Rattle.stage_flow.proofs.SendingSearch.{ReachesOn}
 use Rattle.stage_flow.proofs.tight.reach_all.Given as goal
 
 abbrev pub invariant-loop-next : goal.invariant-loop-next
-invariant-loop-next l = ReachesOn l.net l.flow (at_vertex l.labels.far) (count_at l.labels.hops) l.from l.reached.keys l.next
+invariant-loop-next l = ReachesOn l.net l.flow (at_vertex l.labels.far) (count_at l.labels.hops) l.marks l.from l.reached.keys l.next
 
 abbrev pub decreases-loop-next : goal.decreases-loop-next
 decreases-loop-next l = vertex_count l.net - l.next

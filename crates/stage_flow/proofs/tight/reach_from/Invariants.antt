@@ -6,5 +6,5 @@ use Rattle.stage_flow.proofs.tight.reach_from.Given as goal
 
 abbrev pub invariant-loop-number : goal.invariant-loop-number
 invariant-loop-number l =
-    insert_all nat_eq l.reached.keys (heads_of (at_vertex l.labels.far) (count_at l.labels.hops) l.vertex (ways_by l.net l.flow (drop l.number-index l.numbers)))
-    ≡ insert_all nat_eq l.initial.reached.keys (heads_of (at_vertex l.labels.far) (count_at l.labels.hops) l.vertex (ways_by l.net l.flow l.numbers))
+    insert_all nat_eq l.reached.keys (heads_of (at_vertex l.labels.far) (count_at l.labels.hops) l.marks l.vertex (ways_by l.net l.flow (drop l.number-index l.numbers)))
+    ≡ insert_all nat_eq l.initial.reached.keys (heads_of (at_vertex l.labels.far) (count_at l.labels.hops) l.marks l.vertex (ways_by l.net l.flow l.numbers))

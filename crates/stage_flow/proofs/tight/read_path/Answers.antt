@@ -16,7 +16,7 @@ pub least_end-vertex-requires : goal.least_end-vertex-requires
 least_end-vertex-requires c =
     let net = c.args.net.now in
     let keys = c.args.reached.now.keys in
-    let low = reached-low net c.args.flow.now (at_vertex c.args.labels.now.far) (count_at c.args.labels.now.hops) c.args.from keys c.requires.reached in
+    let low = reached-low net c.args.flow.now (at_vertex c.args.labels.now.far) (count_at c.args.labels.now.hops) c.args.marks.now c.args.from keys c.requires.reached in
     let long = ap (λ (xs : List ℕ). length xs) c.as_slice.ensures in
     subst (All (λ v. v < length c.as_slice.result.now)) (sym c.as_slice-2.ensures.keys)
     (All-weaker (λ v. v < vertex_count net) (λ v. v < length c.as_slice.result.now) (λ v h. omega (arith, h, long, c.requires.read.each_hops)) keys low)
@@ -24,7 +24,7 @@ least_end-vertex-requires c =
 pub loop-left-init : goal.loop-left-init
 loop-left-init c =
     let hops = c.args.labels.now.hops in
-    reads-first c.args.net.now c.args.flow.now (at_vertex c.args.labels.now.far) hops c.as_slice-2.result.now c.requires.labels c.requires.read.ends c.args.from c.requires.vertex c.args.reached.now.keys c.requires.reached c.least_end-vertex.result c.get-left.result.now (map way_of c.args.path.now.items) c.as_slice.result.now
+    reads-first c.args.net.now c.args.flow.now (at_vertex c.args.labels.now.far) hops c.as_slice-2.result.now c.args.marks.now c.requires.kept c.requires.read.ends c.args.from c.requires.vertex c.requires.fresh c.args.reached.now.keys c.requires.reached c.least_end-vertex.result c.get-left.result.now (map way_of c.args.path.now.items) c.as_slice.result.now
     c.requires.read.few c.as_slice.ensures c.as_slice-2.ensures.keys c.least_end-vertex.ensures.least c.least_end-vertex.ensures.found
     (get_or_from_slice_get hops c.args.from c.get-left.result.now 0 c.get-left.ensures)
     (ap (map way_of) c.requires.empty)
@@ -43,7 +43,7 @@ unreachable-requires c =
     let hops = count_at c.args.labels.now.hops in
     let keys = c.args.reached.now.keys in
     let vertex = c.loop-left.vertex in
-    reads-some net flow far hops c.requires.labels c.requires.read.ends c.args.from c.requires.vertex keys c.requires.reached (map way_of c.loop-left.path.items) c.loop-left.left vertex (option_map way_of c.least_into.result) c.loop-left-test.true c.loop-left.invariant
+    reads-some net flow far hops c.args.marks.now c.requires.kept c.requires.read.ends c.args.from c.requires.vertex c.requires.fresh keys c.requires.reached (map way_of c.loop-left.path.items) c.loop-left.left vertex (option_map way_of c.least_into.result) c.loop-left-test.true c.loop-left.invariant
     (c.least_into.ensures
     ∙ ap (λ numbers. least_by (comes_last far hops keys vertex) None (ways_by net flow numbers)) (c.at.ensures ∙ c.requires.incidence.at vertex c.loop-left.invariant.low)
     ∙ ap (least_by (comes_last far hops keys vertex) None) (ways_by-near net flow vertex))
@@ -59,7 +59,7 @@ loop-left-preserved c =
     let vertex = c.loop-left.vertex in
     let step : Step = c.in-Some.step in
     let items = c.loop-left.path.items in
-    reads-on net flow far hops c.requires.labels c.requires.read.ends c.args.from c.requires.vertex keys c.requires.reached (map way_of items) (map way_of c.push.new.self.items) c.loop-left.left (c.loop-left.left - 1) vertex (option_map way_of c.least_into.result) (way_of step)
+    reads-on net flow far hops c.args.marks.now c.requires.kept c.requires.read.ends c.args.from c.requires.vertex c.requires.fresh keys c.requires.reached (map way_of items) (map way_of c.push.new.self.items) c.loop-left.left (c.loop-left.left - 1) vertex (option_map way_of c.least_into.result) (way_of step)
     (ap (option_map way_of) c.in-Some.is) (let some = c.loop-left-test.true in omega (arith, some)) c.loop-left.invariant
     (c.least_into.ensures
     ∙ ap (λ numbers. least_by (comes_last far hops keys vertex) None (ways_by net flow numbers)) (c.at.ensures ∙ c.requires.incidence.at vertex c.loop-left.invariant.low)
@@ -70,4 +70,4 @@ pub returns : goal.returns
 returns c =
     ap (map way_of) c.reverse.ensures.items
     ∙ map-reverse way_of c.loop-left.path.items
-    ∙ reads-all c.args.net.now c.args.flow.now (at_vertex c.args.labels.now.far) (count_at c.args.labels.now.hops) c.args.from (map way_of c.loop-left.path.items) c.loop-left.left c.loop-left.vertex c.loop-left-test.false c.loop-left.invariant
+    ∙ reads-all c.args.net.now c.args.flow.now (at_vertex c.args.labels.now.far) (count_at c.args.labels.now.hops) c.args.marks.now c.args.from (map way_of c.loop-left.path.items) c.loop-left.left c.loop-left.vertex c.loop-left-test.false c.loop-left.invariant

@@ -1,44 +1,53 @@
-use Rattle.std.proofs.Common.{◌<◌, ◌≤◌, ◌≤ℤ◌, length, All, ap, sym, arith, true≢false, heap_items}
+use Rattle.std.proofs.Common.{◌≡◌, ◌<◌, ◌<ℤ◌, ◌-ℤ◌, pos, length, map, heap_items, sym, subst, arith}
 use Rattle.std.proofs.lemmas.Int.{ints}
 use Rattle.std.proofs.lemmas.Bool.Decides.{nat_tests}
+use Rattle.std.proofs.lemmas.Option.{MatchOption-at_none}
+use Rattle.std.proofs.lemmas.List.{nil_from_length}
 use Rattle.stage_flow.specs.declared.offers.Offer.{Offer}
+use Rattle.stage_flow.specs.Waiting.{small_ones}
 use Rattle.stage_flow.proofs.FirstOffers.{gain-greatest}
-use Rattle.stage_flow.proofs.QueuedOffers.{leaves-later, leaves-current, no_less-level, no_less-of}
+use Rattle.stage_flow.proofs.RiseLists.{none-gains}
+use Rattle.stage_flow.proofs.QueuedOffers.{leaves-gaining, leaves-small, leaves-large, all-popped, no_more-than}
 use Rattle.stage_flow.proofs.offers.Queue.pop.Goals as goal
-use Rattle.stage_flow.proofs.offers.Queue.pop.Goals.{in-Some+else-self-top, in_default}
 
-pub returns-then-is_empty : goal.returns-then-is_empty
-returns-then-is_empty c =
+pub invariant_of-self-clause-gains : goal.invariant_of-self-clause-gains
+invariant_of-self-clause-gains c =
+    let queue = c.args.self.now in
+    all-popped (λ (offer : Offer). pos 0 <ℤ offer.gain) c.pop.result (heap_items queue.gaining) (heap_items c.pop.new.self) c.pop.ensures.permutation
+    (λ none. (MatchOption-at_none _ _ none c.pop.ensures.unchanged).0) queue.gains
+
+pub returns-then-not-is_empty : goal.returns-then-not-is_empty
+returns-then-not-is_empty c =
     let queue = c.args.self.now in
     let offer = c.in_ok-offer.offer in
-    let later = heap_items queue.later in
-    let none : length queue.current.items ≤ 0 = grind (arith, nat_tests, c.is_empty.ensures, c.if-is_empty.true, queue.current.ok.0) in
-    leaves-later queue.current.items later (heap_items c.pop.new.self) offer
-    (λ k d within. absurd (omega (arith, within, none)))
-    (gain-greatest offer later (c.in_ok-offer.ensures.heap_order queue.ordered).1)
-    c.in_ok-offer.ensures.permutation
+    let gaining = heap_items queue.gaining in
+    let some : 0 < length gaining = omega (arith, c.in_ok-offer.ensures.len, queue.gaining.data.ok.0) in
+    let gains : pos 0 <ℤ offer.gain = subst (λ (first : Offer). pos 0 <ℤ first.gain) (sym c.in_ok-offer.ensures.top) (queue.gains 0 offer some) in
+    leaves-gaining gaining (heap_items c.pop.new.self) (small_ones queue.small) (heap_items queue.large) offer
+    (record {
+      moved = c.in_ok-offer.ensures.permutation;
+      greatest = gain-greatest offer gaining (c.in_ok-offer.ensures.heap_order queue.first).1;
+    })
+    (no_more-than (pos 0) (small_ones queue.small) offer (none-gains (map (λ list. list.items) queue.small.lists.items) queue.small.own) (omega (arith, ints, gains)))
+    (no_more-than (pos 0 -ℤ pos 64) (heap_items queue.large) offer queue.rises (omega (arith, ints, gains)))
 
-pub returns-then-self-top : goal.returns-then-self-top
-returns-then-self-top c =
+pub returns-in-Some : goal.returns-in-Some
+returns-in-Some c =
     let queue = c.args.self.now in
-    let offer = c.in_ok-offer-2.offer in
-    let top = c.in-Some.top.now in
-    let later = heap_items queue.later in
-    let most = gain-greatest offer later (c.in_ok-offer-2.ensures.heap_order queue.ordered).1 in
-    let some : 0 < length later = omega (arith, c.in_ok-offer-2.ensures.len, queue.later.data.ok.0) in
-    let same = ap (λ (o : Offer). o.gain) c.in-Some.ensures.lookup in
-    let less : queue.gain ≤ℤ offer.gain = omega (arith, ints, most 0 top some, same, c.if-self-top.true) in
-    leaves-later queue.current.items later (heap_items c.pop-then-self-top.new.self) offer (no_less-level queue.gain queue.current.items offer queue.level less) most
-    c.in_ok-offer-2.ensures.permutation
+    let none : length (heap_items queue.gaining) ≡ 0 = grind (arith, nat_tests, c.if-not-is_empty.false, c.is_empty.ensures, queue.gaining.data.ok.0) in
+    leaves-small (heap_items queue.gaining) (small_ones queue.small) (small_ones c.pop-2.new.self) (heap_items queue.large) c.in-Some.offer
+    (nil_from_length (heap_items queue.gaining) none) c.in-Some.ensures.least
+    (no_more-than (pos 0 -ℤ pos 64) (heap_items queue.large) c.in-Some.offer queue.rises (omega (arith, ints, c.in-Some.ensures.little)))
 
 pub returns : goal.returns
 returns c =
     let queue = c.args.self.now in
-    let later = heap_items queue.later in
-    let most : All (λ (o : Offer). o.gain ≤ℤ queue.gain) later =
-    elim c.match-peek.branch [
-      | in-Some+else-self-top w ↦
-          no_less-of w.in-Some.top.now.gain queue.gain later (gain-greatest w.in-Some.top.now later (w.in-Some.ensures.greatest queue.ordered)) (omega (arith, ints, w.if-self-top.false))
-      | in_default w ↦ λ k d within. absurd (true≢false (sym (w.in_default.ensures.variant.1 (omega (arith, within, queue.later.data.ok.0)))))
-    ] in
-    leaves-current queue.gain queue.current.items c.pop-2.new.self.items later c.in_ok-offer-3.offer c.in_ok-offer-3.ensures.items queue.level most
+    let offer = c.in_ok-offer-2.offer in
+    let large = heap_items queue.large in
+    let none : length (heap_items queue.gaining) ≡ 0 = grind (arith, nat_tests, c.if-not-is_empty.false, c.is_empty.ensures, queue.gaining.data.ok.0) in
+    leaves-large (heap_items queue.gaining) (small_ones queue.small) (small_ones c.pop-2.new.self) large (heap_items c.pop-3.new.self) offer
+    (nil_from_length (heap_items queue.gaining) none) c.in_default.ensures.least.0 c.in_default.ensures.least.1
+    (record {
+      moved = c.in_ok-offer-2.ensures.permutation;
+      greatest = gain-greatest offer large (c.in_ok-offer-2.ensures.heap_order queue.ordered).1;
+    })

@@ -1,10 +1,11 @@
-use Rattle.std.proofs.Common.{◌≡◌, ◌-ℤ◌, ◌<◌, ◌∙◌, ℤ, pos, length, get_or, map, Some, sym, ap, subst, arith}
+use Rattle.std.proofs.Common.{◌≡◌, ◌-ℤ◌, ◌<◌, ◌∙◌, ℤ, pos, [], length, get_or, map, Some, refl, sym, ap, subst, arith}
 use Rattle.std.proofs.lemmas.Int.{ints}
 use Rattle.std.proofs.lemmas.List.{get_or_default}
 use Rattle.flow_net.specs.declared.net.Flow.{Flow}
 use Rattle.stage_flow.specs.Rounds.{after_round}
 use Rattle.stage_flow.specs.Given.{ArePotentials, at_vertex, count_at}
 use Rattle.stage_flow.specs.UnderWay.{sender_in}
+use Rattle.stage_flow.proofs.FreshLabels.{clear-kept}
 use Rattle.stage_flow.proofs.Labels.{labels-for}
 use Rattle.stage_flow.proofs.Round.{ways-low, sender-low, rounds_go_by_labels}
 use Rattle.stage_flow.proofs.ProgressNetworks.{vertices-few, ends-among}
@@ -72,3 +73,7 @@ returns-clause-potentials c =
     let fit = labels-negated net progress.flow labels.far (count_at labels.hops) from round.0 c.requires.net are c.in_ok-labels.ensures.each.0 round.1 in
     subst (λ (flow : Flow). ArePotentials net flow c.in_ok-potentials.potentials) (sym c.in_ok-send.ensures.ok)
     (subst (ArePotentials net (after_round net progress.flow)) (sym numbers) fit)
+
+pub send-requires-clause-kept : goal.send-requires-clause-kept
+send-requires-clause-kept c =
+    clear-kept c.args.net.now c.args.self.now.flow (at_vertex c.in_ok-labels.labels.far) (count_at c.in_ok-labels.labels.hops) [] c.requires.net c.in_ok-labels.ensures.labels (λ vertex. refl)

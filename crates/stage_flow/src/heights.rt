@@ -1,0 +1,275 @@
+//! The search that says how far labels near a sender may be raised.
+//!
+//! A residual arc is level if its tail's label is just as long as the way over it. As labels fit, the way over it has no fewer arcs
+//! than the label says; how many more is its slack. The search begins at the sender, at a height, and comes down over each level
+//! arc by its slack, highest vertices first, through marked vertices. It ends at the first one that isn't marked, and that
+//! vertex' height is the floor: a vertex above it may be raised by its height above the floor. Nothing is promised of the floor:
+//! `raising` tests what comes of it. Promised is only that each vertex that the search came to is listed.
+//!
+//! Source: Dijkstra's search with a list for each distance (Dial 1969), here for heights, which are few.
+
+ghost use Rattle.std.specs.Prelude.{◌≡◌, ◌<◌, ◌/◌, ◌+ℤ◌, ◌↔◌, All, IsTrue, length, OnOk, IfOk};
+ghost use Rattle.stage_flow.specs.Residual.{vertex_count};
+ghost use Rattle.stage_flow.specs.Given.{AreIncidences, at_vertex};
+ghost use Rattle.stage_flow.specs.Sending.{AreRead};
+ghost use Rattle.stage_flow.specs.Raising.{AreTracked, AreAtRest};
+
+use crate::incidence::{Incidence, vertices};
+use crate::offers::is_marked;
+use crate::search::Labels;
+use crate::ways::{Step, step_at, units_at};
+use flow_net::{Flow, Net};
+use net_base::NoMemory;
+use std::alloc::Global;
+
+/// The height of the sender: labels are raised by fewer arcs than this.
+const TOP: u32 = 64;
+
+/// A floor that no height is above.
+pub(crate) const ABOVE_ALL: u32 = u32::MAX;
+
+/// Room in which heights are searched, used anew by each search.
+#[derive(Drop)]
+pub(crate) struct Room {
+    /// The height of each vertex, 0 where the search didn't come.
+    pub(crate) heights: Vec<u32>,
+    /// The vertices that it came to, each once.
+    pub(crate) reached: Vec<u32>,
+    // Those that wait, in a list for each height.
+    waiting: Vec<Vec<u32>>,
+}
+
+// A vertex waits at a height, if there is a list for that.
+fn wait_at(lists: &mut Vec<Vec<u32>>, height: u32, vertex: u32) -> Result<(), NoMemory> {
+    let height = height as usize;
+    if height < lists.len() {
+        lists[height].push(vertex)?;
+    }
+    Ok(())
+}
+
+// The next vertex that waits at a height.
+fn pop_at(lists: &mut Vec<Vec<u32>>, height: u32) -> Option<u32> {
+    let height = height as usize;
+    if height < lists.len() {
+        return lists[height].pop();
+    }
+    None
+}
+
+// The next vertex that waits at a height or below, and its height.
+fn pop_highest(lists: &mut Vec<Vec<u32>>, height: &mut u32) -> Option<u32> {
+    while *height > 0 {
+        if let Some(vertex) = pop_at(lists, *height) {
+            return Some(vertex);
+        }
+        *height -= 1;
+    }
+    None
+}
+
+// Nobody waits.
+fn clear_all(lists: &mut Vec<Vec<u32>>) {
+    for height in 0..lists.len() {
+        lists[height].clear();
+    }
+}
+
+// A list for each height.
+fn lists_for_heights(alloc: Global) -> Result<Vec<Vec<u32>>, NoMemory> {
+    let mut lists = Vec::new(alloc);
+    for _ in 0..TOP + 1 {
+        lists.push(Vec::new(alloc))?;
+    }
+    Ok(lists)
+}
+
+// The search comes to a vertex at a height, unless it came there as high before.
+fn come_to(
+    heights: &mut [u32],
+    reached: &mut Vec<u32>,
+    vertex: u32,
+    height: u32,
+) -> Result<bool, NoMemory>
+    requires vertex { vertex < length heights.old }
+    requires tracked { AreTracked heights.old reached.old.items }
+    ensures each { length heights.new ≡ length heights.old }
+    ensures tracked { OnOk result (AreTracked heights.new reached.new.items) }
+{
+    let old = heights[vertex as usize];
+    if old >= height {
+        return Ok(false);
+    }
+    heights[vertex as usize] = height;
+    if old == 0 {
+        reached.push(vertex)?;
+    }
+    Ok(true)
+}
+
+/// Whether a residual arc is level.
+pub(crate) fn is_level(labels: &Labels, step: Step) -> bool
+    requires { (step.tail < length labels.now.far) × (step.head < length labels.now.far) }
+    ensures { IsTrue result ↔ (step.length +ℤ at_vertex labels.now.far step.head ≡ at_vertex labels.now.far step.tail) }
+{
+    let far = *labels.far.get(step.tail as usize);
+    let next_far = *labels.far.get(step.head as usize);
+    step.length.checked_add(next_far) == Some(far)
+}
+
+// How many arcs of slack a level residual arc has, or as many as can be where it isn't level.
+fn slack(labels: &Labels, step: Step) -> u32
+    requires far { (step.tail < length labels.now.far) × (step.head < length labels.now.far) }
+    requires hops { (step.tail < length labels.now.hops) × (step.head < length labels.now.hops) }
+{
+    if !is_level(labels, step) {
+        return u32::MAX;
+    }
+    let hops = *labels.hops.get(step.tail as usize);
+    let next_hops = *labels.hops.get(step.head as usize);
+    next_hops.saturating_add(1).saturating_sub(hops)
+}
+
+// Comes down over a residual arc, if it leaves a vertex, from that vertex' height.
+fn come_by(
+    labels: &Labels,
+    vertex: u32,
+    height: u32,
+    step: Step,
+    room: &mut Room,
+) -> Result<(), NoMemory>
+    requires far { (step.tail < length labels.now.far) × (step.head < length labels.now.far) }
+    requires hops { (step.tail < length labels.now.hops) × (step.head < length labels.now.hops) }
+    requires heights { step.head < length room.old.heights.items }
+    requires tracked { AreTracked room.old.heights.items room.old.reached.items }
+    ensures each { length room.new.heights.items ≡ length room.old.heights.items }
+    ensures tracked { OnOk result (AreTracked room.new.heights.items room.new.reached.items) }
+{
+    if step.tail != vertex {
+        return Ok(());
+    }
+    let height = height.saturating_sub(slack(labels, step));
+    let heights = room.heights.as_mut_slice();
+    if come_to(heights, &mut room.reached, step.head, height)? {
+        wait_at(&mut room.waiting, height, step.head)?;
+    }
+    Ok(())
+}
+
+// Comes down over the residual arcs on an arc that leave a vertex.
+fn come_over(
+    net: &Net,
+    flow: &Flow,
+    labels: &Labels,
+    vertex: u32,
+    height: u32,
+    number: u32,
+    room: &mut Room,
+) -> Result<(), NoMemory>
+    requires read { AreRead net.now flow.now labels.now.far labels.now.hops }
+    requires pin { number / 2 < length net.now.pins }
+    requires each { length room.old.heights.items ≡ vertex_count net.now }
+    requires tracked { AreTracked room.old.heights.items room.old.reached.items }
+    ensures each { length room.new.heights.items ≡ length room.old.heights.items }
+    ensures tracked { OnOk result (AreTracked room.new.heights.items room.new.reached.items) }
+{
+    let step = step_at(net, number, false);
+    // Where the arc itself leaves the vertex, its reverse enters it, and units needn't be read.
+    if step.tail == vertex {
+        return come_by(labels, vertex, height, step, room);
+    }
+    if units_at(flow, number) > 0 {
+        come_by(labels, vertex, height, step_at(net, number, true), room)?;
+    }
+    Ok(())
+}
+
+// Comes down over the residual arcs on these arcs that leave a vertex.
+fn come_from(
+    net: &Net,
+    flow: &Flow,
+    labels: &Labels,
+    vertex: u32,
+    height: u32,
+    numbers: &[u32],
+    room: &mut Room,
+) -> Result<(), NoMemory>
+    requires read { AreRead net.now flow.now labels.now.far labels.now.hops }
+    requires pins { All (λ number. number / 2 < length net.now.pins) numbers.now }
+    requires each { length room.old.heights.items ≡ vertex_count net.now }
+    requires tracked { AreTracked room.old.heights.items room.old.reached.items }
+    ensures each { length room.new.heights.items ≡ length room.old.heights.items }
+    ensures tracked { OnOk result (AreTracked room.new.heights.items room.new.reached.items) }
+{
+    for number in numbers {
+        come_over(net, flow, labels, vertex, height, *number, room)?;
+    }
+    Ok(())
+}
+
+// Whether a vertex is there, and stands at a height.
+fn stands_at(heights: &[u32], vertex: u32, height: u32) -> bool
+    ensures { IsTrue result → vertex < length heights.now }
+{
+    let vertex = vertex as usize;
+    vertex < heights.len() && heights[vertex] == height
+}
+
+impl Room {
+    /// The search came nowhere yet.
+    pub(crate) fn new(alloc: Global, net: &Net) -> Result<Room, NoMemory>
+        ensures { IfOk result (λ room. AreAtRest net.now room.heights.items) }
+    {
+        Ok(Room {
+            heights: vec![in alloc; 0; vertices(net)]?,
+            reached: Vec::new(alloc),
+            waiting: lists_for_heights(alloc)?,
+        })
+    }
+}
+
+/// Searches from a vertex until it comes to one that isn't marked. The answer is the floor.
+pub(crate) fn search(
+    net: &Net,
+    incidence: &Incidence,
+    flow: &Flow,
+    labels: &Labels,
+    marks: &[bool],
+    from: u32,
+    room: &mut Room,
+) -> Result<u32, NoMemory>
+    requires read { AreRead net.now flow.now labels.now.far labels.now.hops }
+    requires incidence { AreIncidences net.now incidence.now }
+    requires from { from < vertex_count net.now }
+    requires rest { AreAtRest net.now room.old.heights.items }
+    ensures each { length room.new.heights.items ≡ length room.old.heights.items }
+    ensures tracked { OnOk result (AreTracked room.new.heights.items room.new.reached.items) }
+{
+    clear_all(&mut room.waiting);
+    room.reached.clear();
+    come_to(room.heights.as_mut_slice(), &mut room.reached, from, TOP)?;
+    wait_at(&mut room.waiting, TOP, from)?;
+    let mut height = TOP;
+    // Far more turns than vertices wait.
+    for _ in 0..u32::MAX {
+        let Some(vertex) = pop_highest(&mut room.waiting, &mut height) else {
+            break;
+        };
+        // A vertex to which it came higher later on waits in vain.
+        if stands_at(room.heights.as_slice(), vertex, height) {
+            if !is_marked(marks, vertex) {
+                return Ok(height);
+            }
+            come_from(
+                net,
+                flow,
+                labels,
+                vertex,
+                height,
+                incidence.at(vertex),
+                room,
+            )?;
+        }
+    }
+    Ok(ABOVE_ALL)
+}

@@ -1,0 +1,239 @@
+//! Labels of marked vertices near a sender are raised by a few arcs each.
+//!
+//! A label that is marked may be too good. A search from the sender (`heights`) says by how many arcs those near it are: each by
+//! its height above the floor. Whether all residual arcs still fit then is tested before any label is touched, so nothing rests
+//! on how the search went. Lengths stay as they are, and so do all labels that aren't marked.
+
+ghost use Rattle.std.specs.Prelude.{◌≡◌, ◌<◌, ◌/◌, ◌^◌, ℕ, true, All, IsTrue, length, OnOk, IfOk};
+ghost use Rattle.stage_flow.specs.Residual.{ways_on, ways_of, vertex_count};
+ghost use Rattle.stage_flow.specs.Given.{IsNetwork, AreIncidences, at_vertex, count_at};
+ghost use Rattle.stage_flow.specs.Sending.{way_of, arc_at, ways_by, AreRead};
+ghost use Rattle.stage_flow.specs.Passes.{mark_at};
+ghost use Rattle.stage_flow.specs.Staleness.{AreKept};
+ghost use Rattle.stage_flow.specs.Raising.{lifted, AreTracked, AreAtRest, StaysFitting, MayRise, AreKeptBut};
+
+use crate::heights::{ABOVE_ALL, Room, is_level, search};
+use crate::incidence::Incidence;
+use crate::search::Labels;
+use crate::ways::{Step, step_at, units_at};
+use flow_net::{Flow, Net};
+use net_base::{List, NoMemory};
+
+// The number of arcs of a raised label.
+fn raised(hops: &[u32], heights: &[u32], floor: u32, vertex: u32) -> u64
+    requires hops { vertex < length hops.now }
+    requires heights { vertex < length heights.now }
+    ensures { result ≡ lifted (count_at hops.now) heights.now floor vertex }
+{
+    let vertex = vertex as usize;
+    u64::from(hops[vertex]) + u64::from(heights[vertex].saturating_sub(floor))
+}
+
+// Whether a residual arc that fits labels still does once they are raised, if it leaves a vertex.
+fn stays_fitting(labels: &Labels, heights: &[u32], floor: u32, vertex: u32, step: Step) -> bool
+    requires far { (step.tail < length labels.now.far) × (step.head < length labels.now.far) }
+    requires hops { (step.tail < length labels.now.hops) × (step.head < length labels.now.hops) }
+    requires heights { (step.tail < length heights.now) × (step.head < length heights.now) }
+    ensures { IsTrue result → StaysFitting (at_vertex labels.now.far) (count_at labels.now.hops) heights.now floor vertex (way_of step) }
+{
+    if step.tail != vertex {
+        return true;
+    }
+    // An arc that isn't level fits whatever the numbers of arcs are.
+    if !is_level(labels, step) {
+        return true;
+    }
+    let hops = labels.hops.as_slice();
+    raised(hops, heights, floor, step.tail) <= raised(hops, heights, floor, step.head) + 1
+}
+
+// Whether the residual arcs on an arc do.
+fn stay_fitting_over(
+    net: &Net,
+    flow: &Flow,
+    labels: &Labels,
+    heights: &[u32],
+    floor: u32,
+    vertex: u32,
+    number: u32,
+) -> bool
+    requires read { AreRead net.now flow.now labels.now.far labels.now.hops }
+    requires heights { length heights.now ≡ vertex_count net.now }
+    requires pin { number / 2 < length net.now.pins }
+    ensures { IsTrue result → All (StaysFitting (at_vertex labels.now.far) (count_at labels.now.hops) heights.now floor vertex) (ways_on flow.now (arc_at net.now number)) }
+{
+    let step = step_at(net, number, false);
+    if !stays_fitting(labels, heights, floor, vertex, step) {
+        return false;
+    }
+    // A reverse leaves the head. Where that is another vertex, units needn't be read.
+    if step.head != vertex {
+        return true;
+    }
+    if units_at(flow, number) > 0 {
+        return stays_fitting(labels, heights, floor, vertex, step_at(net, number, true));
+    }
+    true
+}
+
+// Whether those of the residual arcs on these arcs do.
+fn stay_fitting_from(
+    net: &Net,
+    flow: &Flow,
+    labels: &Labels,
+    heights: &[u32],
+    floor: u32,
+    vertex: u32,
+    numbers: &[u32],
+) -> bool
+    requires read { AreRead net.now flow.now labels.now.far labels.now.hops }
+    requires heights { length heights.now ≡ vertex_count net.now }
+    requires pins { All (λ number. number / 2 < length net.now.pins) numbers.now }
+    ensures { IsTrue result → All (StaysFitting (at_vertex labels.now.far) (count_at labels.now.hops) heights.now floor vertex) (ways_by net.now flow.now numbers.now) }
+{
+    for number in numbers {
+        if !stay_fitting_over(net, flow, labels, heights, floor, vertex, *number) {
+            return false;
+        }
+    }
+    true
+}
+
+// Whether a vertex may rise.
+fn may_rise(
+    net: &Net,
+    incidence: &Incidence,
+    flow: &Flow,
+    labels: &Labels,
+    marks: &[bool],
+    heights: &[u32],
+    floor: u32,
+    vertex: u32,
+) -> bool
+    requires read { AreRead net.now flow.now labels.now.far labels.now.hops }
+    requires incidence { AreIncidences net.now incidence.now }
+    requires marks { length marks.now ≡ vertex_count net.now }
+    requires heights { length heights.now ≡ vertex_count net.now }
+    requires vertex { vertex < vertex_count net.now }
+    ensures { IsTrue result → MayRise net.now flow.now (at_vertex labels.now.far) (count_at labels.now.hops) marks.now heights.now floor vertex }
+{
+    if heights[vertex as usize] <= floor {
+        return true;
+    }
+    if !marks[vertex as usize] {
+        return false;
+    }
+    if raised(labels.hops.as_slice(), heights, floor, vertex) >= marks.len() as u64 {
+        return false;
+    }
+    let numbers = incidence.at(vertex);
+    stay_fitting_from(net, flow, labels, heights, floor, vertex, numbers)
+}
+
+// Whether all these vertices may.
+fn may_all_rise(
+    net: &Net,
+    incidence: &Incidence,
+    flow: &Flow,
+    labels: &Labels,
+    marks: &[bool],
+    heights: &[u32],
+    reached: &[u32],
+    floor: u32,
+) -> bool
+    requires read { AreRead net.now flow.now labels.now.far labels.now.hops }
+    requires incidence { AreIncidences net.now incidence.now }
+    requires marks { length marks.now ≡ vertex_count net.now }
+    requires heights { length heights.now ≡ vertex_count net.now }
+    requires reached { All (λ vertex. vertex < vertex_count net.now) reached.now }
+    ensures { IsTrue result → All (MayRise net.now flow.now (at_vertex labels.now.far) (count_at labels.now.hops) marks.now heights.now floor) reached.now }
+{
+    for vertex in reached {
+        if !may_rise(net, incidence, flow, labels, marks, heights, floor, *vertex) {
+            return false;
+        }
+    }
+    true
+}
+
+// The floor that was found, if all vertices above it may rise, or one that no vertex is above.
+fn tested_floor(
+    net: &Net,
+    incidence: &Incidence,
+    flow: &Flow,
+    labels: &Labels,
+    marks: &[bool],
+    heights: &[u32],
+    reached: &[u32],
+    floor: u32,
+) -> u32
+    requires read { AreRead net.now flow.now labels.now.far labels.now.hops }
+    requires incidence { AreIncidences net.now incidence.now }
+    requires marks { length marks.now ≡ vertex_count net.now }
+    requires heights { length heights.now ≡ vertex_count net.now }
+    requires tracked { AreTracked heights.now reached.now }
+    ensures { (vertex : ℕ) → MayRise net.now flow.now (at_vertex labels.now.far) (count_at labels.now.hops) marks.now heights.now result vertex }
+{
+    if may_all_rise(net, incidence, flow, labels, marks, heights, reached, floor) {
+        return floor;
+    }
+    ABOVE_ALL
+}
+
+// Raises all vertices that were reached by their heights above the floor, and puts heights at rest.
+fn raise_all(hops: &mut [u32], heights: &mut [u32], reached: &[u32], floor: u32)
+    requires tracked { AreTracked heights.old reached.now }
+    requires each { length hops.old ≡ length heights.old }
+    requires few { (vertex : ℕ) → lifted (count_at hops.old) heights.old floor vertex < 2 ^ 32 }
+    ensures each { (length hops.new ≡ length hops.old) × (length heights.new ≡ length heights.old) }
+    ensures raised { (vertex : ℕ) → count_at hops.new vertex ≡ lifted (count_at hops.old) heights.old floor vertex }
+    ensures rest { (vertex : ℕ) → count_at heights.new vertex ≡ 0 }
+{
+    for vertex in reached {
+        let vertex = *vertex as usize;
+        hops[vertex] += heights[vertex].saturating_sub(floor);
+        heights[vertex] = 0;
+    }
+}
+
+/// Raises labels of marked vertices near a vertex. Marked vertices are dead then but for some of those in `room.reached`.
+pub(crate) fn raise(
+    net: &Net,
+    incidence: &Incidence,
+    flow: &Flow,
+    labels: Labels,
+    marks: &[bool],
+    from: u32,
+    room: &mut Room,
+) -> Result<Labels, NoMemory>
+    requires net { IsNetwork net.now }
+    requires incidence { AreIncidences net.now incidence.now }
+    requires units { length flow.now.pins ≡ length net.now.pins }
+    requires each { (length labels.far ≡ vertex_count net.now) × (length labels.hops ≡ vertex_count net.now) × (length marks.now ≡ vertex_count net.now) }
+    requires kept { AreKept net.now flow.now (at_vertex labels.far) (count_at labels.hops) marks.now }
+    requires from { from < vertex_count net.now }
+    requires rest { AreAtRest net.now room.old.heights.items }
+    ensures kept { IfOk result (λ labels. AreKeptBut net.now flow.now (at_vertex labels.far) (count_at labels.hops) marks.now room.new.reached.items) }
+    ensures each { IfOk result (λ labels. (length labels.far ≡ vertex_count net.now) × (length labels.hops ≡ vertex_count net.now)) }
+    ensures low { OnOk result (All (λ vertex. vertex < vertex_count net.now) room.new.reached.items) }
+    ensures rest { OnOk result (AreAtRest net.now room.new.heights.items) }
+{
+    let floor = search(net, incidence, flow, &labels, marks, from, room)?;
+    let heights = room.heights.as_slice();
+    let reached = room.reached.as_slice();
+    let floor = tested_floor(
+        net, incidence, flow, &labels, marks, heights, reached, floor,
+    );
+    let Labels { far, hops } = labels;
+    let mut hops = hops.into_vec();
+    raise_all(
+        hops.as_mut_slice(),
+        room.heights.as_mut_slice(),
+        room.reached.as_slice(),
+        floor,
+    );
+    Ok(Labels {
+        far,
+        hops: List::from_vec(hops),
+    })
+}

@@ -1,0 +1,128 @@
+//! Marked vertices whose labels have become right are unmarked, and labels near a sender are lifted so that some do.
+//!
+//! A marked vertex with a tight arc to one that isn't marked has its right label, and so has each tail of the tight arcs into it. Only
+//! vertices whose labels were raised can have such an arc at first, so these are looked at, and then the tails of the tight arcs into
+//! each that is unmarked.
+
+ghost use Rattle.std.specs.Prelude.{◌≡◌, ◌<◌, ◌/◌, ◌++◌, ◌⊎◌, ℕ, [], ◌∷◌, true, false, All, Contains, IsTrue, IfSome, None, length, OnOk, IfOk};
+ghost use Rattle.stage_flow.specs.Residual.{vertex_count};
+ghost use Rattle.stage_flow.specs.Given.{IsNetwork, AreIncidences, at_vertex, count_at};
+ghost use Rattle.stage_flow.specs.Sending.{AreRead};
+ghost use Rattle.stage_flow.specs.Passes.{mark_at};
+ghost use Rattle.stage_flow.specs.Mending.{IsSound, AreRightOutside};
+ghost use Rattle.stage_flow.specs.Staleness.{AreDead, AreKept};
+ghost use Rattle.stage_flow.specs.Raising.{AreAtRest, IsDead, AreDeadBut, NoneIsMarkedAnew};
+
+use crate::heights::Room;
+use crate::incidence::Incidence;
+use crate::raising::raise;
+use crate::search::Labels;
+use crate::stale::{leads_away_from, push_tails};
+use flow_net::{Flow, Net};
+use net_base::NoMemory;
+
+// Whether a vertex is marked, and a tight arc leads on to one that isn't.
+fn is_revived(
+    net: &Net,
+    incidence: &Incidence,
+    flow: &Flow,
+    labels: &Labels,
+    marks: &[bool],
+    vertex: u32,
+) -> bool
+    requires read { AreRead net.now flow.now labels.now.far labels.now.hops }
+    requires incidence { AreIncidences net.now incidence.now }
+    requires marks { length marks.now ≡ vertex_count net.now }
+    requires vertex { vertex < vertex_count net.now }
+    ensures marked { IsTrue result → mark_at marks.now vertex ≡ true }
+    ensures sound { IsTrue result → IsSound net.now flow.now (at_vertex labels.now.far) (count_at labels.now.hops) marks.now vertex }
+    ensures dead { result ≡ false → IsDead net.now flow.now (at_vertex labels.now.far) (count_at labels.now.hops) marks.now vertex }
+{
+    if !marks[vertex as usize] {
+        return false;
+    }
+    let numbers = incidence.at(vertex);
+    leads_away_from(net, flow, labels, marks, vertex, numbers)
+}
+
+// The next of the vertices to be looked at that is revived.
+fn next_revived(
+    net: &Net,
+    incidence: &Incidence,
+    flow: &Flow,
+    labels: &Labels,
+    marks: &[bool],
+    pending: &mut Vec<u32>,
+) -> Option<u32>
+    requires read { AreRead net.now flow.now labels.now.far labels.now.hops }
+    requires incidence { AreIncidences net.now incidence.now }
+    requires marks { length marks.now ≡ vertex_count net.now }
+    requires low { All (λ vertex. vertex < vertex_count net.now) pending.old.items }
+    requires dead { AreDeadBut net.now flow.now (at_vertex labels.now.far) (count_at labels.now.hops) marks.now pending.old.items }
+    ensures found { IfSome result (λ vertex. (vertex < vertex_count net.now) × (mark_at marks.now vertex ≡ true) × IsSound net.now flow.now (at_vertex labels.now.far) (count_at labels.now.hops) marks.now vertex) }
+    ensures low { All (λ vertex. vertex < vertex_count net.now) pending.new.items }
+    ensures others { IfSome result (λ vertex. AreDeadBut net.now flow.now (at_vertex labels.now.far) (count_at labels.now.hops) marks.now (pending.new.items ++ vertex ∷ [])) }
+    ensures none { result ≡ None → AreDead net.now flow.now (at_vertex labels.now.far) (count_at labels.now.hops) marks.now }
+{
+    while let Some(vertex) = pending.pop() {
+        if is_revived(net, incidence, flow, labels, marks, vertex) {
+            return Some(vertex);
+        }
+    }
+    None
+}
+
+/// Unmarks the marked vertices that have become sound, given those to be looked at first.
+pub(crate) fn revive(
+    net: &Net,
+    incidence: &Incidence,
+    flow: &Flow,
+    labels: &Labels,
+    marks: &mut [bool],
+    pending: &mut Vec<u32>,
+) -> Result<(), NoMemory>
+    requires read { AreRead net.now flow.now labels.now.far labels.now.hops }
+    requires incidence { AreIncidences net.now incidence.now }
+    requires marks { length marks.old ≡ vertex_count net.now }
+    requires right { AreRightOutside net.now flow.now (at_vertex labels.now.far) (count_at labels.now.hops) marks.old }
+    requires dead { AreDeadBut net.now flow.now (at_vertex labels.now.far) (count_at labels.now.hops) marks.old pending.old.items }
+    requires low { All (λ vertex. vertex < vertex_count net.now) pending.old.items }
+    ensures each { length marks.new ≡ length marks.old }
+    ensures right { OnOk result (AreRightOutside net.now flow.now (at_vertex labels.now.far) (count_at labels.now.hops) marks.new) }
+    ensures dead { OnOk result (AreDead net.now flow.now (at_vertex labels.now.far) (count_at labels.now.hops) marks.new) }
+    ensures fewer { NoneIsMarkedAnew marks.old marks.new }
+{
+    while let Some(vertex) = next_revived(net, incidence, flow, labels, marks, pending) {
+        marks[vertex as usize] = false;
+        push_tails(net, flow, labels, vertex, incidence.at(vertex), pending)?;
+    }
+    Ok(())
+}
+
+/// Raises labels of marked vertices near a vertex, and unmarks those that have become right.
+pub(crate) fn lift(
+    net: &Net,
+    incidence: &Incidence,
+    flow: &Flow,
+    labels: Labels,
+    marks: &mut [bool],
+    from: u32,
+    room: &mut Room,
+) -> Result<Labels, NoMemory>
+    requires net { IsNetwork net.now }
+    requires incidence { AreIncidences net.now incidence.now }
+    requires units { length flow.now.pins ≡ length net.now.pins }
+    requires each { (length labels.far ≡ vertex_count net.now) × (length labels.hops ≡ vertex_count net.now) × (length marks.old ≡ vertex_count net.now) }
+    requires kept { AreKept net.now flow.now (at_vertex labels.far) (count_at labels.hops) marks.old }
+    requires from { from < vertex_count net.now }
+    requires rest { AreAtRest net.now room.old.heights.items }
+    ensures kept { IfOk result (λ labels. AreKept net.now flow.now (at_vertex labels.far) (count_at labels.hops) marks.new) }
+    ensures each { IfOk result (λ labels. (length labels.far ≡ vertex_count net.now) × (length labels.hops ≡ vertex_count net.now)) }
+    ensures marks { length marks.new ≡ length marks.old }
+    ensures fewer { NoneIsMarkedAnew marks.old marks.new }
+    ensures rest { OnOk result (AreAtRest net.now room.new.heights.items) }
+{
+    let labels = raise(net, incidence, flow, labels, marks, from, room)?;
+    revive(net, incidence, flow, &labels, marks, &mut room.reached)?;
+    Ok(labels)
+}
