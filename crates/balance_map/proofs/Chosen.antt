@@ -18,8 +18,7 @@ use Rattle.cut_word.specs.Table.{is_set, value_at, table_of}
 use Rattle.cut_word.specs.Cut.{CutView, IsCut, IsRight, trivial_cut, negated}
 use Rattle.cut_word.specs.Merge.{united, both_over, merged}
 use Rattle.cut_word.specs.Word.{first_word, leaves_in}
-use Rattle.cut_word.proofs.CallerLemmas.{merged-some}
-use Rattle.balance_map.proofs.Words.{leaves_in-first_word}
+use Rattle.cut_word.proofs.CallerLemmas.{merged-some, leaves_in-first_word}
 use Rattle.cut_lists.specs.CutList.{ascending, kept, fan_in_cut, pool_of, merges, cut_lists, cut_list}
 use Rattle.cut_lists.proofs.CallerLemmas.{cut_list-is, each_cut_right, list_of_node}
 use Rattle.pattern_table.specs.Least.{least_formula, has_formula}

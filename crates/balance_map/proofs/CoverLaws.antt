@@ -12,6 +12,7 @@ use Rattle.net_base.specs.declared.graph.Subject.{Subject}
 use Rattle.net_base.specs.Graph.{IsProper, IsRefThere}
 use Rattle.net_base.specs.Keys.{is_among}
 use Rattle.net_base.specs.NodeValues.{ref_value}
+use Rattle.net_base.proofs.CallerLemmas.{Contains-map}
 use Rattle.cut_word.specs.Word.{leaves_in}
 use Rattle.gate_net.specs.declared.row.Driver.{Driver}
 use Rattle.gate_net.specs.declared.row.Driver.TheVariants.{Input, Gate}
@@ -29,7 +30,7 @@ use Rattle.balance_map.proofs.Chosen.{ComesFrom, IsOfNode}
 use Rattle.balance_map.proofs.FormulaLeaves.{places-below, leaves-some}
 use Rattle.balance_map.proofs.NodeGates.{driver_at, HasDriver}
 use Rattle.balance_map.proofs.AllGates.{among-left, among-right, used, needed, is_needed, needed-next, needed-same, needed-behind, needed-wanted, comes, gates_for, next, gates_for-push, AreGatesBelow, gates-below}
-use Rattle.balance_map.proofs.Uses.{Contains-map, Contains-unmap, AreUsed, AreUsed-weaker, leaf_drivers, formula-used}
+use Rattle.balance_map.proofs.Uses.{Contains-unmap, AreUsed, AreUsed-weaker, leaf_drivers, formula-used}
 use Rattle.balance_map.proofs.NeededNodes.{among-to}
 
 -- what drives these nodes

@@ -1,7 +1,7 @@
 -- The leaves that stand in a chosen formula: each has a place among the cut's leaves, so each is a lower node.
-use Rattle.std.proofs.Common.{◌≡◌, ◌≤◌, ◌<◌, ℕ, zero, suc, List, [], ◌∷◌, Option, Some, None, get_or, length, map, All, refl, sym, ap, subst, arith}
+use Rattle.std.proofs.Common.{◌≡◌, ◌≤◌, ◌<◌, ℕ, zero, suc, List, [], Option, Some, None, get_or, length, All, refl, sym, ap, subst, arith}
 use Rattle.std.specs.Prelude.{unwrap_or}
-use Rattle.std.proofs.lemmas.List.Elements.{All-nil, All-cons, All-head, All-tail, All-map, All-weaker}
+use Rattle.std.proofs.lemmas.List.Elements.{All-nil, All-cons, All-map, All-weaker}
 use Rattle.net_base.specs.declared.graph.Subject.{Subject}
 use Rattle.cut_word.specs.Word.{leaves_in}
 use Rattle.pattern_table.specs.Least.{leaf_at, least_formula}
@@ -21,11 +21,6 @@ places-below size zero table some = All-cons (λ place. place < size) (unwrap_or
 places-below size (suc depth) table some =
     let parts : List ℕ = parts_in (least_formula size table (suc depth)) in
     All-flat_map (λ place. place < size) (places_in size depth) parts (λ k d h. places-below size depth (get_or parts k d) some)
-
--- What all of these have that are made of others, each of the others has by what is made of it.
-pub All-unmap : {X Y : Type 0} (P : Y → Type 0) (f : X → Y) (xs : List X) → All P (map f xs) → All (λ x. P (f x)) xs
-All-unmap P f [] all = All-nil (λ x. P (f x))
-All-unmap P f (x ∷ xs) all = All-cons (λ x. P (f x)) x xs (All-head P (f x) (map f xs) all) (All-unmap P f xs (All-tail P (f x) (map f xs) all))
 
 -- two facts that all have
 pub All-both : {X : Type 0} (P Q : X → Type 0) (xs : List X) → All P xs → All Q xs → All (λ x. P x × Q x) xs

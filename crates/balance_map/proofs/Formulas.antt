@@ -7,6 +7,7 @@ use Rattle.std.specs.List.{flat_map}
 use Rattle.std.proofs.lemmas.List.{append-nil, append_assoc, length_push, length-append, map_push}
 use Rattle.std.proofs.lemmas.List.Elements.{All-nil, All-cons, All-head, All-tail, All-append, All-push, All-weaker}
 use Rattle.std.proofs.lemmas.List.Sorted.{length_permutation, All-permutation}
+use Rattle.net_base.proofs.CallerLemmas.{All-left, All-right}
 use Rattle.cell_lib.specs.declared.cell.Cell.{Cell}
 use Rattle.cell_lib.specs.declared.cell.Cell.TheVariants.{Dro, Not, And, Or, Xor, Maj}
 use Rattle.cell_lib.specs.Cell.{arity_of, cell_value}
@@ -171,14 +172,6 @@ module _ (inputs : ℕ) (leaves : List Driver) where
   abbrev pub WalksAt : ℕ → Type 0
   WalksAt depth = (gates : List GateRow) (table : ℕ) → AreGates inputs gates → MayWalk depth gates table
       → IsWalked gates (most_gates depth) (places_in (length leaves) depth table) (value_at table) (walked leaves depth gates table)
-
-  All-left : {X : Type 0} (P : X → Type 0) (xs ys : List X) → All P (xs ++ ys) → All P xs
-  All-left P [] ys all = All-nil P
-  All-left P (x ∷ xs) ys all = All-cons P x xs (All-head P x (xs ++ ys) all) (All-left P xs ys (All-tail P x (xs ++ ys) all))
-
-  All-right : {X : Type 0} (P : X → Type 0) (xs ys : List X) → All P (xs ++ ys) → All P ys
-  All-right P [] ys all = all
-  All-right P (x ∷ xs) ys all = All-right P xs ys (All-tail P x (xs ++ ys) all)
 
   pub parts-walked : (depth : ℕ) → WalksAt depth → (so : Driven (List Driver)) (tables : List ℕ) → AreGates inputs so.gates → All (IsThere inputs (length so.gates)) so.by → All (MayWalk depth so.gates) tables → ArePartsWalked so (most_gates depth) (places_in (length leaves) depth) tables (with_parts (walked leaves depth) so tables)
   parts-walked depth walks so [] formed there may = record {

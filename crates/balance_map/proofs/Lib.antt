@@ -4,7 +4,6 @@ mod ChoiceExamples
 mod Counts
 mod LeastChoices
 mod NodeChoices
-mod Words
 mod Formulas
 mod Chosen
 mod FormulaLeaves

@@ -12,6 +12,7 @@ use Rattle.net_base.specs.declared.graph.Subject.{Subject}
 use Rattle.net_base.specs.Graph.{IsNodeAt, IsProper}
 use Rattle.net_base.specs.NodeValues.{value_of, node_values, node_value}
 use Rattle.net_base.proofs.Nodes.{nodes_follow_fan_ins}
+use Rattle.net_base.proofs.CallerLemmas.{All-unmap}
 use Rattle.cut_word.specs.Table.{value_at}
 use Rattle.cut_word.specs.Word.{leaves_in}
 use Rattle.pattern_table.specs.Least.{has_formula}
@@ -26,7 +27,7 @@ use Rattle.balance_map.specs.Cover.{Driven, with_choice, with_driver, with_nodes
 use Rattle.balance_map.specs.Walks.{most_gates, IsLeafThere}
 use Rattle.balance_map.proofs.Formulas.{IsGrown, IsThere-grown, value-grown, HaveValues, IsWalked, MayWalk, formula-walked}
 use Rattle.balance_map.proofs.Chosen.{ComesFrom, IsOfNode, leaves-come}
-use Rattle.balance_map.proofs.FormulaLeaves.{places-below, All-unmap, All-both, length-leaves, leaves-some, leaves-few}
+use Rattle.balance_map.proofs.FormulaLeaves.{places-below, All-both, length-leaves, leaves-some, leaves-few}
 
 -- the gates of more nodes come after those of the first
 pub with_nodes-append : (choices : List Choice) (so : Driven (List Driver)) (nodes more : List ℕ) → with_nodes choices so (nodes ++ more) ≡ with_nodes choices (with_nodes choices so nodes) more

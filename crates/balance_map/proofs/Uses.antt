@@ -8,6 +8,7 @@ use Rattle.std.proofs.lemmas.List.Concat.{flat_map-append}
 use Rattle.std.proofs.lemmas.List.Elements.{Contains-append_left, Contains-append_right, Contains-append_cases, Contains-push, Contains-get_or}
 use Rattle.std.proofs.lemmas.List.Sorted.{Contains-permutation}
 use Rattle.std.proofs.lemmas.Option.{get_or_from_slice_get, slice_get_within}
+use Rattle.net_base.proofs.CallerLemmas.{Contains-one}
 use Rattle.cell_lib.specs.declared.cell.Cell.{Cell}
 use Rattle.cell_lib.specs.declared.cell.Cell.TheVariants.{Dro, Not, And, Or, Xor, Maj}
 use Rattle.cell_lib.specs.Cell.{is_dro}
@@ -23,21 +24,11 @@ use Rattle.balance_map.specs.Needed.{parts_in, places_in}
 use Rattle.balance_map.specs.Cover.{Driven, with_cell, and_driver, with_parts, with_formula, walked}
 
 -- ---- What a list has
-pub Contains-map : {X Y : Type 0} (f : X → Y) (xs : List X) (x : X) → Contains xs x → Contains (map f xs) (f x)
-Contains-map f xs x has = (has.0, omega (arith, has.1, length-map xs f), get_or-map f xs has.0 x (f x) has.1 ∙ ap f has.2)
-
 pub Contains-unmap : {X Y : Type 0} (f : X → Y) (xs : List X) (y : Y) → Contains (map f xs) y → (x : X) × Contains xs x × (f x ≡ y)
 Contains-unmap f [] y has = absurd (let h : has.0 < 0 = has.1 in omega arith)
 Contains-unmap f (x ∷ xs) y has =
     let within : has.0 < length (x ∷ xs) = omega (arith, has.1, length-map xs f) in
     (get_or (x ∷ xs) has.0 x, Contains-get_or (x ∷ xs) has.0 x within, sym (get_or-map f (x ∷ xs) has.0 x y within) ∙ has.2)
-
-pub Contains-one : {X : Type 0} (x y : X) → Contains (x ∷ []) y → x ≡ y
-Contains-one x y has = at has.0 has.1 has.2
-  where
-    at : (k : ℕ) → k < length (x ∷ []) → get_or (x ∷ []) k y ≡ y → x ≡ y
-    at zero within e = e
-    at (suc k) within e = absurd (omega arith)
 
 -- the pins of all gates
 abbrev pub pins_of : List GateRow → List Driver

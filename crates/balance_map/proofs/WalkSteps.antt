@@ -10,23 +10,16 @@ use Rattle.pattern_table.specs.Least.{least_formula, parts_of}
 use Rattle.pattern_table.specs.Laws.{IsHeadOf}
 use Rattle.pattern_table.proofs.CallerLemmas.{formula-means}
 use Rattle.gate_net.specs.declared.row.Driver.{Driver}
-use Rattle.gate_net.specs.declared.row.End.{End}
-use Rattle.gate_net.specs.declared.row.End.TheVariants.{Zero, One, From}
 use Rattle.gate_net.specs.declared.row.GateRow.{GateRow}
 use Rattle.gate_net.specs.declared.net.GateNet.{GateNet}
 use Rattle.gate_net.specs.Net.{IsThere, IsEndThere, IsGateNet}
-use Rattle.gate_net.proofs.CallerLemmas.{IsThere-more}
+use Rattle.gate_net.proofs.CallerLemmas.{IsEndThere-more}
 use Rattle.balance_map.specs.Needed.{parts_in, places_in}
 use Rattle.balance_map.specs.Cover.{Driven, with_cell, and_driver, with_parts, with_formula, walked}
 use Rattle.balance_map.specs.Walks.{most_gates, IsLeafThere, IsReady}
 use Rattle.balance_map.proofs.Formulas.{IsGrown, length-grown, MayWalk, MayWalk-grown, MayWalk-parts, ArePartsWalked, parts-walked, formula-walked}
 
 -- ---- Netlists whose gates grew
-IsEndThere-more : (inputs few many : ℕ) → few ≤ many → (end : End) → IsEndThere inputs few end → IsEndThere inputs many end
-IsEndThere-more inputs few many more Zero there = there
-IsEndThere-more inputs few many more One there = there
-IsEndThere-more inputs few many more (From driver) there = IsThere-more inputs few many more driver there
-
 pub IsGateNet-grown : (net : GateNet) (room : ℕ) (gates : List GateRow) → IsGateNet net → IsGrown net.inputs net.gates room gates → length gates < 2 ^ 31 → IsGateNet (record net { gates = gates })
 IsGateNet-grown net room gates formed grown few = record {
   gates = grown.formed;

@@ -2,30 +2,12 @@
 -- Without a cycle the level of a signal is above those of the pins of the table that drives it. So by induction on the true
 -- level, what is given to the pins is right, and then what is given to the signal, which is made from it in the same way.
 -- It doesn't matter how the levels were found.
-use Rattle.std.proofs.Common.{◌≡◌, ◌≤◌, ◌+◌, ◌∙◌, ℕ, zero, suc, true, List, [], ◌∷◌, map, max, get_or, Option, Some, None, nat_eq, refl, sym, ap, arith, add-one, true≢false, ⊎_elim}
+use Rattle.std.proofs.Common.{◌≡◌, ◌≤◌, ◌+◌, ◌∙◌, ℕ, zero, suc, List, get_or, Option, Some, None, refl, sym, ap, arith, add-one}
 use Rattle.std.specs.Prelude.{slice_index}
-use Rattle.std.proofs.lemmas.Bool.{or_cases, or_left, or_right, eqb-true, eq-eqb}
-use Rattle.net_base.specs.Keys.{is_among}
 use Rattle.blif_model.specs.declared.design.Table.{Table}
-use Rattle.blif_model.specs.Order.{driver_of, largest, level_behind, level_within, level_of}
-use Rattle.blif_model.proofs.CallerLemmas.{HasNoCycle, level_of-driven}
+use Rattle.blif_model.specs.Order.{driver_of, level_behind, level_within, level_of}
+use Rattle.blif_model.proofs.CallerLemmas.{HasNoCycle, level_of-driven, largest-ge, largest-same}
 use Rattle.blif_check.specs.Levels.{AreAbovePins, AreLevels}
-
--- each of some levels is at most the largest
-largest-ge : (levels : ℕ → ℕ) (pins : List ℕ) (pin : ℕ) → is_among nat_eq pin pins ≡ true → levels pin ≤ largest (map levels pins)
-largest-ge levels [] pin e = absurd (true≢false (sym e))
-largest-ge levels (first ∷ pins) pin e =
-    ⊎_elim {C = levels pin ≤ max (levels first) (largest (map levels pins))}
-    (λ here. let same : levels pin ≡ levels first = ap levels (eqb-true pin first here) in omega arith)
-    (λ rest. omega (arith, largest-ge levels pins pin rest))
-    (or_cases (nat_eq pin first) (is_among nat_eq pin pins) e)
-
--- Levels that are the same at all pins have the same largest.
-largest-same : (these those : ℕ → ℕ) (pins : List ℕ) → ((pin : ℕ) → is_among nat_eq pin pins ≡ true → these pin ≡ those pin) → largest (map these pins) ≡ largest (map those pins)
-largest-same these those [] same = refl
-largest-same these those (pin ∷ pins) same =
-    λ i. max (same pin (or_left (nat_eq pin pin) (is_among nat_eq pin pins) (eq-eqb pin pin refl)) i)
-    (largest-same these those pins (λ other e. same other (or_right (nat_eq other pin) (is_among nat_eq other pins) e)) i)
 
 -- Levels of pins that are the same give the same level.
 level_behind-same : (these those : ℕ → ℕ) (driver : Option Table) → ((signal : ℕ) → these signal ≡ those signal) → level_behind these driver ≡ level_behind those driver

@@ -6,7 +6,7 @@
 use Rattle.std.proofs.Common.{◌≡◌, ◌<◌, ◌≤◌, ◌+◌, ◌++◌, ◌||◌, ◌∙◌, ◌⊎◌, ℕ, zero, suc, Bool, true, false, cond, IsTrue, List, [], ◌∷◌, length, take, get_or, Some, nat_eq, refl, sym, ap, subst, arith, true≢false, ⊎_elim, append_assoc, length-append}
 use Rattle.std.specs.Cmp.{nat_eq_equiv}
 use Rattle.std.specs.List.{IsDistinct}
-use Rattle.std.proofs.Math.Bool.{or_assoc}
+use Rattle.std.proofs.Math.Bool.{or_assoc, or-false}
 use Rattle.std.proofs.lemmas.Bool.{or_cases, or_left, or_right, eqb-true, eq-eqb}
 use Rattle.std.proofs.lemmas.List.{append-nil, take_all, take_more, take-append-le}
 use Rattle.std.proofs.lemmas.List.Folds.{list_any-append}
@@ -17,10 +17,6 @@ use Rattle.blif_model.specs.declared.design.Table.{Table}
 use Rattle.blif_model.specs.Order.{driver_of, pins_of, leads}
 use Rattle.blif_model.proofs.CallerLemmas.{leads-push, list_any-some, list_any-among}
 use Rattle.blif_check.specs.Cycles.{ComesBack, AreReached, all_pins}
-
-or-false : (b : Bool) → (b || false) ≡ b
-or-false true = refl
-or-false false = refl
 
 -- One signal more goes last, unless it is there.
 key-grows : (keys : List ℕ) (key : ℕ) → (more : List ℕ) × (insert_key nat_eq keys key ≡ keys ++ more)

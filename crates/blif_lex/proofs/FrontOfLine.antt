@@ -2,7 +2,7 @@
 -- backslash on.
 use Rattle.std.proofs.Common.{◌≡◌, ◌<◌, ◌≤◌, ◌-◌, ◌++◌, ◌∷◌, ◌==◌, ◌⊎◌, inl, inr, ℕ, Bool, true, false, not, List, [], length, take, drop, get_or, reverse, refl, sym, ap, subst, ◌∙◌, append_assoc, append-nil, arith, if◌then◌else◌}
 use Rattle.std.specs.List.{suffix_len, position_or_len}
-use Rattle.std.proofs.lemmas.Bool.{cases_lt}
+use Rattle.std.proofs.lemmas.Bool.{cases_lt, not-false}
 use Rattle.std.proofs.lemmas.Bool.Decides.{Decides-eqb}
 use Rattle.std.proofs.lemmas.List.{get_or-reverse, take-append-drop, length-reverse}
 use Rattle.std.proofs.lemmas.List.Sums.{prefix_len_stops, prefix_len_passes, prefix_len-le-length}
@@ -55,15 +55,11 @@ without_carriage_return-IsFront : (line : List ℕ) → IsFront line (without_ca
 unfolding without_carriage_return
 without_carriage_return-IsFront line = front_by line 13 (ends_in 13 line) refl refl
 
-not_false : (b : Bool) → not b ≡ false → b ≡ true
-not_false true h = refl
-not_false false h = absurd cc
-
 without_comment-IsFront : (line : List ℕ) → IsFront line (without_comment line)
 unfolding without_comment
 without_comment-IsFront line =
     let k = position_or_len is_hash line in
-    front_take line k (λ within. same_byte (get_or line k 0) 35 (not_false _ (prefix_len_stops (λ byte. not (is_hash byte)) line 0 within)) refl)
+    front_take line k (λ within. same_byte (get_or line k 0) 35 (not-false _ (prefix_len_stops (λ byte. not (is_hash byte)) line 0 within)) refl)
 
 without_last_blanks-IsFront : (line : List ℕ) → IsFront line (without_last_blanks line)
 unfolding without_last_blanks

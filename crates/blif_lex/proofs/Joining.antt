@@ -5,16 +5,12 @@ use Rattle.std.proofs.lemmas.List.{drop-drop}
 use Rattle.std.proofs.lemmas.Bool.{cases_lt}
 use Rattle.std.proofs.Math.ListN.{drop_of_length-le}
 use Rattle.std.proofs.Math.Seq.{take-length}
+use Rattle.std.proofs.Math.Bool.{or_assoc}
 use Rattle.blif_lex.specs.declared.line.LogicalLine.{LogicalLine}
 use Rattle.blif_lex.specs.Parts.{Part}
 use Rattle.blif_lex.specs.PhysicalLines.{is_line_feed, is_bad_byte, is_joined, content, cut_at_line_feeds}
 use Rattle.blif_lex.specs.LogicalLines.{line_of, one_line, joined, all_from, tokens_at}
 use Rattle.blif_lex.proofs.Cutting.{cut_behind, cut_at-first}
-
--- joining is associative
-or_assoc : (a b c : Bool) → ((a || b) || c) ≡ (a || (b || c))
-or_assoc true b c = refl
-or_assoc false b c = refl
 
 joined-assoc : (line next : LogicalLine) (lines : List LogicalLine) → joined line (joined next lines) ≡ joined (one_line line next) lines
 joined-assoc line next [] = refl

@@ -3,6 +3,7 @@
 use Rattle.std.proofs.Common.{◌≡◌, ◌<◌, ◌+◌, ◌++◌, ◌∷◌, ◌||◌, ◌&&◌, ℕ, Bool, true, false, not, nat_le, List, [], length, map, Some, None, Option, refl, sym, ap, ◌∙◌, append_assoc, length-append, arith, if◌then◌else◌}
 use Rattle.std.specs.List.{filter, list_all, last_or, AllByRecursion}
 use Rattle.std.proofs.lemmas.Bool.Decides.{nat_tests}
+use Rattle.std.proofs.lemmas.Bool.{and_from}
 use Rattle.blif_lex.specs.declared.line.Span.{Span}
 use Rattle.blif_lex.specs.declared.line.LogicalLine.{LogicalLine}
 use Rattle.blif_lex.specs.Parts.{Part, cut_at}
@@ -21,9 +22,6 @@ and_right : (a b : Bool) → (a && b) ≡ true → b ≡ true
 and_right true b h = h
 and_right false b h = cc
 
-and_both : (a b : Bool) → a ≡ true → b ≡ true → (a && b) ≡ true
-and_both a b h k = rw (h, k) refl
-
 nor : (a b : Bool) → not a ≡ true → not b ≡ true → not (a || b) ≡ true
 nor true b h k = h
 nor false b h k = k
@@ -32,7 +30,7 @@ list_all-left : (test : ℕ → Bool) (bytes others : List ℕ) → list_all tes
 list_all-left test [] others all = refl
 list_all-left test (byte ∷ bytes) others all =
     let rest : list_all test (bytes ++ others) ≡ true = and_right (test byte) (list_all test (bytes ++ others)) all in
-    and_both (test byte) (list_all test bytes) (and_left (test byte) (list_all test (bytes ++ others)) all) (list_all-left test bytes others rest)
+    and_from (test byte) (list_all test bytes) (and_left (test byte) (list_all test (bytes ++ others)) all) (list_all-left test bytes others rest)
 
 list_all-right : (test : ℕ → Bool) (bytes others : List ℕ) → list_all test (bytes ++ others) ≡ true → list_all test others ≡ true
 list_all-right test [] others all = all
@@ -43,7 +41,7 @@ both_pass [] blanks feeds = refl
 both_pass (byte ∷ bytes) blanks feeds =
     let no_blanks = list_all (λ byte. not (is_blank byte)) bytes in
     let no_feeds = list_all (λ byte. not (is_line_feed byte)) bytes in
-    and_both (not (is_before byte)) (list_all (λ byte. not (is_before byte)) bytes)
+    and_from (not (is_before byte)) (list_all (λ byte. not (is_before byte)) bytes)
     (nor (is_blank byte) (is_line_feed byte) (and_left (not (is_blank byte)) no_blanks blanks) (and_left (not (is_line_feed byte)) no_feeds feeds))
     (both_pass bytes (and_right (not (is_blank byte)) no_blanks blanks) (and_right (not (is_line_feed byte)) no_feeds feeds))
 

@@ -99,7 +99,7 @@ largest-ge levels (first ∷ pins) pin e =
     (or_cases (nat_eq pin first) (is_among nat_eq pin pins) e)
 
 -- Levels that are the same at all pins have the same largest.
-largest-same : (these those : ℕ → ℕ) (pins : List ℕ) → ((pin : ℕ) → is_among nat_eq pin pins ≡ true → these pin ≡ those pin) → largest (map these pins) ≡ largest (map those pins)
+pub largest-same : (these those : ℕ → ℕ) (pins : List ℕ) → ((pin : ℕ) → is_among nat_eq pin pins ≡ true → these pin ≡ those pin) → largest (map these pins) ≡ largest (map those pins)
 largest-same these those [] same = refl
 largest-same these those (pin ∷ pins) same =
     λ i. max (same pin (or_left (nat_eq pin pin) (is_among nat_eq pin pins) (eq-eqb pin pin refl)) i)

@@ -3,7 +3,7 @@
 use Rattle.std.proofs.Common.{◌≡◌, ◌≤◌, ◌+◌, ◌-◌, ◌++◌, ◌&&◌, ◌∙◌, ℕ, suc, Bool, true, false, not, nat_le, List, [], ◌∷◌, length, map, take, drop, All, refl, sym, ap, subst, append_assoc, length-append, length-drop, append-nil, arith, if◌then◌else◌}
 use Rattle.std.specs.Prelude.{slice_range}
 use Rattle.std.specs.List.{filter, list_any, list_all, position_or_len, AllByRecursion}
-use Rattle.std.proofs.lemmas.Bool.{or_parts}
+use Rattle.std.proofs.lemmas.Bool.{or_parts, and_parts}
 use Rattle.std.proofs.lemmas.Bool.Decides.{nat_tests}
 use Rattle.std.proofs.lemmas.List.{take-append-drop, drop-drop}
 use Rattle.std.proofs.lemmas.List.Elements.{All-nil, All-cons, All-append, All-from_recursion}
@@ -54,14 +54,10 @@ content-front line =
     (content-front_of_comment line)
 
 -- tests of all bytes
-all_left : (a b : Bool) → (a && b) ≡ true → (a ≡ true) × (b ≡ true)
-all_left true b h = (refl, h)
-all_left false b h = cc
-
 list_all-front : (test : ℕ → Bool) (bytes behind : List ℕ) → list_all test (bytes ++ behind) ≡ true → list_all test bytes ≡ true
 list_all-front test [] behind all = refl
 list_all-front test (byte ∷ bytes) behind all =
-    let parts = all_left (test byte) (list_all test (bytes ++ behind)) all in rw (parts.0, list_all-front test bytes behind parts.1) refl
+    let parts = and_parts (test byte) (list_all test (bytes ++ behind)) all in rw (parts.0, list_all-front test bytes behind parts.1) refl
 
 before_first-passes : (test : ℕ → Bool) (bytes : List ℕ) → list_all (λ byte. not (test byte)) (take (position_or_len test bytes) bytes) ≡ true
 before_first-passes test [] = refl
@@ -87,7 +83,7 @@ is_plain byte = not (is_hash byte) && not (is_bad_byte byte)
 all_plain : (bytes : List ℕ) → list_all (λ byte. not (is_hash byte)) bytes ≡ true → list_any is_bad_byte bytes ≡ false → list_all is_plain bytes ≡ true
 all_plain [] hashes bads = refl
 all_plain (byte ∷ bytes) hashes bads =
-    let no_hash = all_left (not (is_hash byte)) (list_all (λ byte. not (is_hash byte)) bytes) hashes in
+    let no_hash = and_parts (not (is_hash byte)) (list_all (λ byte. not (is_hash byte)) bytes) hashes in
     let no_bad = or_parts (is_bad_byte byte) (list_any is_bad_byte bytes) bads in
     rw (no_hash.0, no_bad.0) (all_plain bytes no_hash.1 no_bad.1)
 
@@ -97,8 +93,8 @@ name_byte byte plain blank = (grind (arith, nat_tests), grind (arith, nat_tests)
 name_bytes : (bytes : List ℕ) → list_all is_plain bytes ≡ true → list_all (λ byte. not (is_blank byte)) bytes ≡ true → All IsNameByte bytes
 name_bytes [] plain blanks = All-nil IsNameByte
 name_bytes (byte ∷ bytes) plain blanks =
-    let first = all_left (is_plain byte) (list_all is_plain bytes) plain in
-    let second = all_left (not (is_blank byte)) (list_all (λ byte. not (is_blank byte)) bytes) blanks in
+    let first = and_parts (is_plain byte) (list_all is_plain bytes) plain in
+    let second = and_parts (not (is_blank byte)) (list_all (λ byte. not (is_blank byte)) bytes) blanks in
     All-cons IsNameByte byte bytes (name_byte byte first.0 second.0) (name_bytes bytes first.1 second.1)
 
 -- bytes that stand at a place of a text
@@ -154,7 +150,7 @@ module _ (text : List ℕ) (is_separator test : ℕ → Bool) where
   parts-AreCut : (start : ℕ) (bytes : List ℕ) → StandAt text start bytes → list_all test bytes ≡ true → AllByRecursion IsCut (cut_at is_separator start bytes)
   parts-AreCut start [] at all = tt
   parts-AreCut start (byte ∷ bytes) at all =
-      let passes = all_left (test byte) (list_all test bytes) all in
+      let passes = and_parts (test byte) (list_all test bytes) all in
       by (is_separator byte) refl passes.0 (parts-AreCut (start + 1) bytes (next_stands start byte bytes at) passes.1)
     where
       by : (b : Bool) → is_separator byte ≡ b → test byte ≡ true → AllByRecursion IsCut (cut_at is_separator (start + 1) bytes) → AllByRecursion IsCut (if b then record { start = start; bytes = [] } ∷ cut_at is_separator (start + 1) bytes else with_byte start byte (cut_at is_separator (start + 1) bytes))

@@ -3,8 +3,8 @@
 -- and a row has a bit for each pin. Names only grow, so what was below their number stays below it. A token adds one name at
 -- most: on a line of inputs or outputs it is one more of these, and a table has 257 tokens at most. So the names are counted by
 -- inputs, outputs and tables, and stay far below 2^31, which `NameTable` asks for.
-use Rattle.std.proofs.Common.{◌≡◌, ◌<◌, ◌≤◌, ◌+◌, ◌-◌, ◌*◌, ◌++◌, ◌||◌, ◌∙◌, ◌==◌, ℕ, Bool, true, false, not, cond, nat_eq, nat_lt, List, [], ◌∷◌, length, map, take, All, Option, Some, None, Result, Ok, refl, sym, ap, subst, append_assoc, append-nil, length-append, length-take, arith, true≢false, if◌then◌else◌}
-use Rattle.std.specs.List.{list_any, position_or_len, AllByRecursion, IsDistinct}
+use Rattle.std.proofs.Common.{◌≡◌, ◌<◌, ◌≤◌, ◌+◌, ◌-◌, ◌*◌, ◌++◌, ◌∙◌, ◌==◌, ℕ, Bool, true, false, not, cond, nat_eq, nat_lt, List, [], ◌∷◌, length, map, take, All, Option, Some, None, Result, Ok, refl, sym, ap, subst, append_assoc, append-nil, length-append, length-take, arith, if◌then◌else◌}
+use Rattle.std.specs.List.{position_or_len, AllByRecursion, IsDistinct}
 use Rattle.std.specs.Option.{option_to_list, option_map}
 use Rattle.std.specs.Str.{bytes_eq}
 use Rattle.std.proofs.lemmas.Bool.Decides.{nat_tests}
@@ -15,7 +15,7 @@ use Rattle.std.proofs.lemmas.Option.{none-some}
 use Rattle.std.proofs.lemmas.Slice.Eq.{bytes_eq-Decides}
 use Rattle.std.specs.Cmp.{nat_eq_equiv}
 use Rattle.net_base.specs.Keys.{is_among}
-use Rattle.net_base.proofs.CallerLemmas.{bind-Ok}
+use Rattle.net_base.proofs.CallerLemmas.{bind-Ok, position-found}
 use Rattle.blif_model.specs.declared.design.Table.{Table}
 use Rattle.blif_model.specs.declared.design.Cube.{Cube}
 use Rattle.blif_model.specs.declared.design.TheConstants.{MAX_INPUTS, MAX_OUTPUTS, MAX_TABLES, MAX_PINS}
@@ -112,14 +112,6 @@ few_more [] names = omega arith
 few_more (token ∷ tokens) names = omega (arith, length-with_name token names, few_more tokens (with_name token names))
 
 -- a number is that of a name
-found-below : {X : Type 0} (test : X → Bool) (xs : List X) → list_any test xs ≡ true → position_or_len test xs < length xs
-found-below test [] e = absurd (true≢false (sym e))
-found-below {X} test (x ∷ xs) e = by (test x) (found-below test xs) e
-  where
-    by : (b : Bool) → (list_any test xs ≡ true → position_or_len test xs < length xs) → (b || list_any test xs) ≡ true → cond (not b) (1 + position_or_len test xs) 0 < length (x ∷ xs)
-    by true rest e = omega arith
-    by false rest e = omega (arith, rest e)
-
 within : {X : Type 0} (test : X → Bool) (xs : List X) → position_or_len test xs ≤ length xs
 within test [] = omega arith
 within {X} test (x ∷ xs) = by (test x) (within test xs)
@@ -132,7 +124,7 @@ number-below : (name : List ℕ) (names : List (List ℕ)) → number_of name na
 number-below name names = by (is_among bytes_eq name names) refl
   where
     by : (b : Bool) → is_among bytes_eq name names ≡ b → number_of name names < length (if b then names else names ++ name ∷ [])
-    by true e = found-below (bytes_eq name) names e
+    by true e = position-found (bytes_eq name) names e
     by false e = omega (arith, within (bytes_eq name) names, length_push names name)
 
 weaker : (n m : ℕ) (signals : List ℕ) → n ≤ m → All (λ signal. signal < n) signals → All (λ signal. signal < m) signals

@@ -9,6 +9,7 @@ use Rattle.std.proofs.lemmas.List.{length_push, get_or_at, take_more, take_all, 
 use Rattle.std.proofs.lemmas.List.Folds.{list_all-append}
 use Rattle.std.proofs.lemmas.List.Sums.{AllPass-from_list_all}
 use Rattle.std.proofs.Math.Seq.{take-append_seam, drop-append_seam}
+use Rattle.std.proofs.lemmas.Bool.{and_parts, not-true}
 use Rattle.blif_lex.specs.declared.line.LogicalLine.{LogicalLine}
 use Rattle.blif_lex.specs.declared.line.Span.{Span}
 use Rattle.blif_lex.specs.Parts.{Part, cut_at, with_byte}
@@ -42,23 +43,15 @@ numbered number [] = []
 numbered number (tokens ∷ lines) = good_line number tokens ∷ numbered (number + 1) lines
 
 -- tests of all bytes
-both : (a b : Bool) → (a && b) ≡ true → (a ≡ true) × (b ≡ true)
-both true b h = (refl, h)
-both false b h = cc
-
-not_true : (b : Bool) → not b ≡ true → b ≡ false
-not_true true h = cc
-not_true false h = refl
-
 pub list_all-weaker : (p q : ℕ → Bool) (bytes : List ℕ) → ((byte : ℕ) → p byte ≡ true → q byte ≡ true) → list_all p bytes ≡ true → list_all q bytes ≡ true
 list_all-weaker p q [] implies all = refl
 list_all-weaker p q (byte ∷ bytes) implies all =
-    let parts = both (p byte) (list_all p bytes) all in rw (implies byte parts.0, list_all-weaker p q bytes implies parts.1) refl
+    let parts = and_parts (p byte) (list_all p bytes) all in rw (implies byte parts.0, list_all-weaker p q bytes implies parts.1) refl
 
 list_any-not : (p q : ℕ → Bool) (bytes : List ℕ) → ((byte : ℕ) → p byte ≡ true → q byte ≡ false) → list_all p bytes ≡ true → list_any q bytes ≡ false
 list_any-not p q [] implies all = refl
 list_any-not p q (byte ∷ bytes) implies all =
-    let parts = both (p byte) (list_all p bytes) all in rw (implies byte parts.0, list_any-not p q bytes implies parts.1) refl
+    let parts = and_parts (p byte) (list_all p bytes) all in rw (implies byte parts.0, list_any-not p q bytes implies parts.1) refl
 
 -- a byte of a line: that of a token, or a space
 abbrev is_line_byte : ℕ → Bool
@@ -71,7 +64,7 @@ no_blank : (byte : ℕ) → is_token_byte byte ≡ true → not (is_blank byte) 
 no_blank byte is = grind (arith, nat_tests)
 
 blank_not : (byte : ℕ) → is_token_byte byte ≡ true → is_blank byte ≡ false
-blank_not byte is = not_true (is_blank byte) (no_blank byte is)
+blank_not byte is = not-true (is_blank byte) (no_blank byte is)
 
 no_return : (byte : ℕ) → is_token_byte byte ≡ true → (byte == 13) ≡ false
 no_return byte is = grind (arith, nat_tests)
@@ -91,18 +84,18 @@ module _ (is_separator : ℕ → Bool) where
       → cut_at is_separator start (front ++ separator ∷ rest) ≡ record { start = start; bytes = front } ∷ cut_at is_separator (start + (length front + 1)) rest
   cut_at-separated start [] rest separator none is = rw is refl
   cut_at-separated start (byte ∷ front) rest separator none is =
-      let parts = both (not (is_separator byte)) (list_all (λ byte. not (is_separator byte)) front) none in
-      let other : is_separator byte ≡ false = not_true (is_separator byte) parts.0 in
+      let parts = and_parts (not (is_separator byte)) (list_all (λ byte. not (is_separator byte)) front) none in
+      let other : is_separator byte ≡ false = not-true (is_separator byte) parts.0 in
       let place : start + 1 + (length front + 1) ≡ start + (length (byte ∷ front) + 1) = omega arith in
       rw other (ap (with_byte start byte) (cut_at-separated (start + 1) front rest separator parts.1 is) ∙ rw place refl)
 
   -- and all of them, where there is none
   cut_at-whole : (start byte : ℕ) (front : List ℕ) → list_all (λ byte. not (is_separator byte)) (byte ∷ front) ≡ true → cut_at is_separator start (byte ∷ front) ≡ record { start = start; bytes = byte ∷ front } ∷ []
   cut_at-whole start byte [] none =
-      let parts = both (not (is_separator byte)) true none in rw (not_true (is_separator byte) parts.0) refl
+      let parts = and_parts (not (is_separator byte)) true none in rw (not-true (is_separator byte) parts.0) refl
   cut_at-whole start byte (next ∷ front) none =
-      let parts = both (not (is_separator byte)) (list_all (λ byte. not (is_separator byte)) (next ∷ front)) none in
-      rw (not_true (is_separator byte) parts.0) (ap (with_byte start byte) (cut_at-whole (start + 1) next front parts.1))
+      let parts = and_parts (not (is_separator byte)) (list_all (λ byte. not (is_separator byte)) (next ∷ front)) none in
+      rw (not-true (is_separator byte) parts.0) (ap (with_byte start byte) (cut_at-whole (start + 1) next front parts.1))
 
 -- bytes whose last one is that of a token, and no backslash
 record EndsOpen (bytes : List ℕ) : Type 0 where
@@ -158,7 +151,7 @@ module _ (bytes : List ℕ) (ends : EndsOpen bytes) (hashless : list_all (λ byt
   position_whole : (test : ℕ → Bool) (line : List ℕ) → list_all (λ byte. not (test byte)) line ≡ true → position_or_len test line ≡ length line
   position_whole test [] none = refl
   position_whole test (byte ∷ line) none =
-      let parts = both (not (test byte)) (list_all (λ byte. not (test byte)) line) none in
+      let parts = and_parts (not (test byte)) (list_all (λ byte. not (test byte)) line) none in
       rw parts.0 (omega (arith, position_whole test line parts.1))
 
   keeps_comment : without_comment bytes ≡ bytes

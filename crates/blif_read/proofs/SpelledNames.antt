@@ -2,7 +2,7 @@
 --
 -- The names so far begin the names of the design. So the place that a name has among them, or gets behind them, is its place
 -- in the design; and since no name stands twice there, it is the number of the signal whose name is spelled.
-use Rattle.std.proofs.Common.{◌≡◌, ◌<◌, ◌≤◌, ◌+◌, ◌++◌, ◌∷◌, ◌==◌, ◌||◌, ◌⊎◌, inl, inr, ℕ, Bool, true, false, not, cond, nat_eq, List, [], length, map, get_or, All, None, refl, sym, ap, subst, ◌∙◌, append_assoc, append-nil, length-append, arith, true≢false, if◌then◌else◌}
+use Rattle.std.proofs.Common.{◌≡◌, ◌<◌, ◌≤◌, ◌+◌, ◌++◌, ◌∷◌, ◌==◌, ◌⊎◌, inl, inr, ℕ, Bool, true, false, not, cond, nat_eq, List, [], length, map, get_or, All, None, refl, sym, ap, subst, ◌∙◌, append_assoc, append-nil, length-append, arith, if◌then◌else◌}
 use Rattle.std.specs.List.{list_any, position_or_len, IsDistinct, AllPairs}
 use Rattle.std.specs.Str.{bytes_eq}
 use Rattle.std.proofs.lemmas.Bool.{or_parts, cases_lt}
@@ -15,7 +15,7 @@ use Rattle.std.proofs.lemmas.Map.Keys.{IsDistinct-push}
 use Rattle.std.proofs.lemmas.Map.Made.{AllPairs-from_IsDistinct}
 use Rattle.std.proofs.lemmas.Slice.Eq.{bytes_eq-Decides}
 use Rattle.net_base.specs.Keys.{is_among}
-use Rattle.net_base.proofs.CallerLemmas.{is_among-next}
+use Rattle.net_base.proofs.CallerLemmas.{is_among-next, position-found}
 use Rattle.blif_model.specs.Names.{number_of, with_name}
 use Rattle.blif_read.specs.declared.port.Port.{Port}
 use Rattle.blif_read.specs.Signals.{is_long, with_names, signals_of}
@@ -68,14 +68,6 @@ pub with_names-distinct : (tokens : List (List ℕ)) → IsDistinct bytes_eq (wi
 with_names-distinct tokens = with_names-distinct_from tokens [] no_names
 
 -- where a name stands
-position-found : {X : Type 0} (test : X → Bool) (xs : List X) → list_any test xs ≡ true → position_or_len test xs < length xs
-position-found test [] e = absurd (true≢false (sym e))
-position-found {X} test (x ∷ xs) e = by (test x) (position-found test xs) e
-  where
-    by : (b : Bool) → (list_any test xs ≡ true → position_or_len test xs < length xs) → (b || list_any test xs) ≡ true → cond (not b) (1 + position_or_len test xs) 0 < length (x ∷ xs)
-    by true rest e = omega arith
-    by false rest e = omega (arith, rest e)
-
 position-none : {X : Type 0} (test : X → Bool) (xs : List X) → list_any test xs ≡ false → position_or_len test xs ≡ length xs
 position-none test [] e = refl
 position-none {X} test (x ∷ xs) e =

@@ -4,23 +4,21 @@ use Rattle.std.specs.List.{All, Contains}
 use Rattle.std.proofs.Math.Nat.{mod-le}
 use Rattle.std.proofs.lemmas.List.Elements.{All-cons, All-head, All-tail}
 use Rattle.std.proofs.lemmas.Bool.{le-leb, lt-leb, leb-true, cases_Bool, or_cases, or_left, or_right, and_parts, and_from, eqb-true, eq-eqb, false_from_ne_true}
+use Rattle.std.proofs.lemmas.List.{length-map}
 use Rattle.cut_word.specs.declared.cut.TheConstants.{LEAF_LIMIT}
 use Rattle.cut_word.specs.Table.{is_set, row_number, value_at}
 use Rattle.cut_word.specs.Cut.{CutView, IsCut, value_over, trivial_cut, negated, has_leaf, has_all}
 use Rattle.cut_word.specs.Word.{first_word, leaves_in}
 use Rattle.cut_word.specs.Merge.{united, values_at, both_over, merged}
-use Rattle.cut_word.proofs.Tables.{row_number-below, is_set-complement, table_of-bits, table_of-below, same_table, steady-four_times}
+pub use Rattle.cut_word.proofs.TableBits.{is_set-and, is_set-or, is_set-xor, is_set-complement, is_set-row_number, row_number-fits, same_table, table_of-bits, table_of-below}
+use Rattle.cut_word.proofs.Tables.{steady-four_times}
 use Rattle.cut_word.proofs.Places.{map-has, values_at-row_number, row_number-values_at, values_at-low}
 use Rattle.cut_word.proofs.Unions.{Has, Rises-from, IsStrictlyIncreasing-from, Rises-united, Has-united, Has-from, Contains-from}
-use Rattle.cut_word.proofs.WordParts.{leaves_in-first_word}
+pub use Rattle.cut_word.proofs.WordParts.{leaves_in-first_word}
 
 -- The values of up to three leaves are a row of a table of eight bits.
 pub row-fits : (values : ℕ → Bool) (leaves : List ℕ) → length leaves ≤ 3 → row_number (map values leaves) < 8
-row-fits values [] few = omega arith
-row-fits values (x ∷ []) few = let h : row_number (map values (x ∷ [])) < 2 ^ 1 = row_number-below (map values (x ∷ [])) in omega arith
-row-fits values (x ∷ (y ∷ [])) few = let h : row_number (map values (x ∷ y ∷ [])) < 2 ^ 2 = row_number-below (map values (x ∷ y ∷ [])) in omega arith
-row-fits values (x ∷ (y ∷ (z ∷ []))) few = let h : row_number (map values (x ∷ y ∷ z ∷ [])) < 2 ^ 3 = row_number-below (map values (x ∷ y ∷ z ∷ [])) in omega arith
-row-fits values (x ∷ (y ∷ (z ∷ (u ∷ leaves)))) few = absurd (omega arith)
+row-fits values leaves few = row_number-fits (map values leaves) (omega (arith, few, length-map leaves values))
 
 -- a place's lowest bits are a place
 pub low-fits : (place n : ℕ) → place < 8 → place % 2 ^ n < 8

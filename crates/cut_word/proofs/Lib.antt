@@ -1,3 +1,4 @@
+mod TableBits
 mod Tables
 mod WordParts
 mod Unions

@@ -9,7 +9,8 @@ use Rattle.cut_word.specs.Merge.{united, values_at, both_over}
 use Rattle.cut_word.specs.declared.merging.Had.{Had}
 use Rattle.cut_word.specs.declared.merging.Union.{Union}
 use Rattle.cut_word.specs.Steps.{where_had, IsPart, IsUnion}
-use Rattle.cut_word.proofs.Tables.{value_at-more, row_number-below, is_set-and, same_table, table_of-bits, table_of-below}
+use Rattle.cut_word.proofs.TableBits.{row_number-below, is_set-and, same_table, table_of-bits, table_of-below}
+use Rattle.cut_word.proofs.Tables.{value_at-more}
 use Rattle.cut_word.proofs.Places.{values_at-front, values_at-behind}
 use Rattle.cut_word.proofs.CallerLemmas.{IsCut-both}
 use Rattle.cut_word.proofs.WordParts.{AreOfCut-made, cut_of-made}

@@ -7,7 +7,7 @@ use Rattle.std.proofs.lemmas.Nat.{pow_pos}
 use Rattle.std.proofs.lemmas.Bool.{cases_eq, cases_Bool, eqb-true, eqb-false, eq-eqb, ne_eqb}
 use Rattle.cut_word.specs.Table.{is_set, row_number}
 use Rattle.cut_word.specs.Merge.{values_at}
-use Rattle.cut_word.proofs.Tables.{is_set-front, row_number-cons}
+use Rattle.cut_word.proofs.TableBits.{is_set-front, row_number-cons}
 use Rattle.cut_word.proofs.Unions.{Has, Rises, AllAbove-has}
 
 -- Two functions that agree on a list map it to the same.

@@ -1,86 +1,12 @@
--- Tables: bits of numbers and rows of values. What is said of all tables of eight bits is evaluated at each of them.
-use Rattle.std.proofs.Common.{mul_assoc, ◌≡◌, ◌<◌, ◌+◌, ◌-◌, ◌*◌, ◌%◌, ◌/◌, ◌^◌, ◌==◌, ◌&&◌, ◌∙◌, min, ℕ, zero, suc, Bool, true, false, not, List, [], ◌∷◌, ◌++◌, length, map, slice_index_or, refl, sym, ap, bit_and, bit_or, arith}
+-- Tables that don't depend on some of their places, and those that get a place for a new leaf. What is said of all tables of
+-- eight bits is evaluated at each of them.
+use Rattle.std.proofs.Common.{mul_assoc, ◌≡◌, ◌<◌, ◌+◌, ◌-◌, ◌*◌, ◌%◌, ◌^◌, ◌==◌, ◌∙◌, ℕ, zero, suc, Bool, true, false, List, [], ◌∷◌, ◌++◌, length, refl, sym, ap, bit_and, bit_or, arith}
 use Rattle.std.specs.Bool.{beq}
-use Rattle.std.specs.Int.{bit_at}
 use Rattle.std.proofs.lemmas.Bool.{agree_below, agree_below_at, and_from, eqb-true, eq-eqb}
-use Rattle.std.proofs.Math.Nat.{pow-suc, pow-succ'}
+use Rattle.std.proofs.Math.Nat.{pow-suc}
 use Rattle.std.proofs.lemmas.Nat.{mod-mul-add}
-use Rattle.std.proofs.lemmas.Nat.Bits.{bit_at-suc, bit_at_and, bit_at-lt, same_from_bits_below}
-use Rattle.cut_word.specs.Table.{is_set, row_number, value_at, table_of}
-
--- ---- A bit is 0 or 1.
-test-and : (x y : ℕ) → x < 2 → y < 2 → (min x y == 1) ≡ ((x == 1) && (y == 1))
-test-and zero zero p q = refl
-test-and zero (suc zero) p q = refl
-test-and (suc zero) zero p q = refl
-test-and (suc zero) (suc zero) p q = refl
-test-and (suc (suc x)) y p q = absurd (omega arith)
-test-and zero (suc (suc y)) p q = absurd (omega arith)
-test-and (suc zero) (suc (suc y)) p q = absurd (omega arith)
-
-test-same : (x y : ℕ) → x < 2 → y < 2 → (x == 1) ≡ (y == 1) → x ≡ y
-test-same zero zero p q e = refl
-test-same zero (suc zero) p q e = cc
-test-same (suc zero) zero p q e = cc
-test-same (suc zero) (suc zero) p q e = refl
-test-same (suc (suc x)) y p q e = absurd (omega arith)
-test-same zero (suc (suc y)) p q e = absurd (omega arith)
-test-same (suc zero) (suc (suc y)) p q e = absurd (omega arith)
-
--- The conjunction of two tables is that of their values, at each place.
-pub is_set-and : (s t place : ℕ) → is_set (bit_and s t) place ≡ (is_set s place && is_set t place)
-is_set-and s t place =
-    ap (λ n. n == 1) (bit_at_and s t place) ∙ test-and (bit_at s place) (bit_at t place) (bit_at-lt s place) (bit_at-lt t place)
-
--- Two tables of the same eight bits are one.
-pub same_table : (s t : ℕ) → s < 256 → t < 256 → ((place : ℕ) → place < 8 → is_set s place ≡ is_set t place) → s ≡ t
-same_table s t p q bits =
-    same_from_bits_below 8 s t p q (λ i h. test-same (bit_at s i) (bit_at t i) (bit_at-lt s i) (bit_at-lt t i) (bits i h))
-
--- ---- Rows of values
-pub row_number-cons : (value : Bool) (values : List Bool) → row_number (value ∷ values) / 2 ≡ row_number values
-row_number-cons true values = omega arith
-row_number-cons false values = omega arith
-
-pub is_set-front : (value : Bool) (values : List Bool) → is_set (row_number (value ∷ values)) 0 ≡ value
-is_set-front true values = ap (λ n. n == 1) (let e : (1 + 2 * row_number values) / 2 ^ 0 % 2 ≡ 1 = omega arith in e)
-is_set-front false values = ap (λ n. n == 1) (let e : 2 * row_number values / 2 ^ 0 % 2 ≡ 0 = omega arith in e)
-
-pub is_set-behind : (number place : ℕ) → is_set number (suc place) ≡ is_set (number / 2) place
-is_set-behind number place = ap (λ n. n == 1) (bit_at-suc number place)
-
--- The bits of a row's number are the row.
-pub is_set-row_number : (values : List Bool) (place : ℕ) → is_set (row_number values) place ≡ slice_index_or values place false
-is_set-row_number [] zero = refl
-is_set-row_number [] (suc place) = is_set-behind 0 place ∙ is_set-row_number [] place
-is_set-row_number (value ∷ values) zero = is_set-front value values
-is_set-row_number (value ∷ values) (suc place) =
-    is_set-behind (row_number (value ∷ values)) place ∙ ap (λ n. is_set n place) (row_number-cons value values) ∙ is_set-row_number values place
-
-pub row_number-below : (values : List Bool) → row_number values < 2 ^ length values
-row_number-below [] = omega arith
-row_number-below (true ∷ values) = let h : row_number values < 2 ^ length values = row_number-below values in omega (arith, pow-succ' 2 (length values))
-row_number-below (false ∷ values) = let h : row_number values < 2 ^ length values = row_number-below values in omega (arith, pow-succ' 2 (length values))
-
-eight-bits : (bit : ℕ → Bool) (place : ℕ) → place < 8 → slice_index_or (map bit (0 ∷ 1 ∷ 2 ∷ 3 ∷ 4 ∷ 5 ∷ 6 ∷ 7 ∷ [])) place false ≡ bit place
-eight-bits bit zero h = refl
-eight-bits bit (suc zero) h = refl
-eight-bits bit (suc (suc zero)) h = refl
-eight-bits bit (suc (suc (suc zero))) h = refl
-eight-bits bit (suc (suc (suc (suc zero)))) h = refl
-eight-bits bit (suc (suc (suc (suc (suc zero))))) h = refl
-eight-bits bit (suc (suc (suc (suc (suc (suc zero)))))) h = refl
-eight-bits bit (suc (suc (suc (suc (suc (suc (suc zero))))))) h = refl
-eight-bits bit (suc (suc (suc (suc (suc (suc (suc (suc place)))))))) h = absurd (omega arith)
-
--- A table that is made of bits has them.
-pub table_of-bits : (bit : ℕ → Bool) (place : ℕ) → place < 8 → is_set (table_of bit) place ≡ bit place
-unfolding table_of
-table_of-bits bit place h = is_set-row_number (map bit (0 ∷ 1 ∷ 2 ∷ 3 ∷ 4 ∷ 5 ∷ 6 ∷ 7 ∷ [])) place ∙ eight-bits bit place h
-
-pub table_of-below : (bit : ℕ → Bool) → table_of bit < 256
-unfolding table_of
-table_of-below bit = row_number-below (map bit (0 ∷ 1 ∷ 2 ∷ 3 ∷ 4 ∷ 5 ∷ 6 ∷ 7 ∷ []))
+use Rattle.cut_word.specs.Table.{is_set, row_number, value_at}
+use Rattle.cut_word.proofs.TableBits.{row_number-below}
 
 -- ---- Tables that don't depend on the places from n on
 doubled : (n k : ℕ) → n * 2 ^ suc k ≡ n * 2 ^ k * 2
@@ -107,15 +33,6 @@ agree_below-from f g (suc n) same = and_from _ _ (beq-same (f n) (g n) (same n (
     beq-same false false e = refl
     beq-same true false e = cc
     beq-same false true e = cc
-
--- Subtracting from all ones turns each bit.
-turned : ℕ → Bool
-turned table = agree_below (is_set (255 - table)) (λ place. not (is_set table place)) 8
-
-pub is_set-complement : (table place : ℕ) → table < 256 → place < 8 → is_set (255 - table) place ≡ not (is_set table place)
-unfolding turned
-is_set-complement table place h k =
-    agree_below_at (is_set (255 - table)) (λ place. not (is_set table place)) 8 place (agree_below_at turned (λ _. true) 256 table refl h) k
 
 -- A table over one leaf is two bits four times, a table over two leaves four bits twice.
 steady_over : ℕ → ℕ → Bool

@@ -1,16 +1,15 @@
 -- The arcs of one pin more: what they add to the balances of vertices, and to the value of a flow.
-use Rattle.std.proofs.Common.{◌≡◌, ◌<◌, ◌≤◌, ◌+◌, ◌*◌, ◌==◌, ◌∙◌, ℕ, zero, suc, ℤ, pos, ◌+ℤ◌, ◌-ℤ◌, ◌*ℤ◌, Bool, true, false, cond, Some, List, [], ◌∷◌, length, get_or, drop, refl, sym, ap, arith}
-use Rattle.std.specs.List.{flat_map, sum_by}
+use Rattle.std.proofs.Common.{◌≡◌, ◌<◌, ◌≤◌, ◌+◌, ◌*◌, ◌==◌, ◌∙◌, ℕ, zero, suc, ℤ, pos, ◌+ℤ◌, ◌-ℤ◌, ◌*ℤ◌, Bool, true, false, cond, Some, List, [], ◌∷◌, length, get_or, drop, refl, ap, arith}
+use Rattle.std.specs.List.{flat_map}
 use Rattle.std.specs.Ordering.{int_eq}
 use Rattle.std.proofs.lemmas.Int.{ints}
-use Rattle.std.proofs.lemmas.List.Recursion.{is_sum_by}
 use Rattle.flow_net.specs.declared.net.Pin.{Pin}
 use Rattle.flow_net.specs.declared.net.Net.{Net}
 use Rattle.flow_net.specs.declared.net.Units.{Units}
 use Rattle.flow_net.specs.declared.net.Flow.{Flow}
 use Rattle.flow_net.specs.Arcs.{Arc, forward_arc, back_arc, arcs_from, arcs_of, mirror_of}
 use Rattle.flow_net.specs.Flows.{pin_units, units_on, units_out, units_in, out_minus_in, wants, value_on}
-use Rattle.flow_net.proofs.CallerLemmas.{total}
+use Rattle.flow_net.proofs.CallerLemmas.{total, sum-is_total}
 use Rattle.flow_cert.specs.declared.verdict.Cause.TheVariants.{Balance}
 use Rattle.flow_cert.specs.Verdicts.{vertex_cause}
 use Rattle.flow_cert.specs.Sums.{balance_cause}
@@ -18,9 +17,6 @@ use Rattle.flow_cert.specs.Sums.{balance_cause}
 -- units out less units in over arcs
 abbrev pub balance_on : Flow → ℕ → List Arc → ℤ
 balance_on flow vertex arcs = pos (total (λ arc. cond (arc.tail == vertex) (units_on flow arc) 0) arcs) -ℤ pos (total (λ arc. cond (arc.head == vertex) (units_on flow arc) 0) arcs)
-
-pub sum-is_total : (f : Arc → ℕ) (arcs : List Arc) → sum_by f arcs ≡ total f arcs
-sum-is_total f arcs = sym (is_sum_by (total f) f refl (λ x xs. refl) arcs)
 
 -- over all arcs it is the balance
 pub balance_on-all : (net : Net) (flow : Flow) (vertex : ℕ) → balance_on flow vertex (arcs_of net) ≡ out_minus_in net flow vertex

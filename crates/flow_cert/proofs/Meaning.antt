@@ -16,14 +16,13 @@ use Rattle.flow_net.specs.Network.{network_of}
 use Rattle.flow_net.specs.Arcs.{Arc, forward_arc, back_arc, arcs_from, arcs_of}
 use Rattle.flow_net.specs.Flows.{units_on, units_out, units_in, out_minus_in, wants, flow_value, IsFullFlow}
 use Rattle.flow_net.specs.Epochs.{epoch_at, dro_count, IsPinBalanced, IsBalanced, HasFewestDros}
-use Rattle.flow_net.proofs.CallerLemmas.{total, IsLaid, network-laid, value-le_count}
+use Rattle.flow_net.proofs.CallerLemmas.{total, IsLaid, network-laid, value-le_count, sum-is_total}
 use Rattle.flow_cert.specs.declared.verdict.Cause.{Cause}
 use Rattle.flow_cert.specs.declared.verdict.Cause.TheVariants.{Length, Unbalanced, Balance, Value}
 use Rattle.flow_cert.specs.declared.verdict.Verdict.TheVariants.{Fewest}
 use Rattle.flow_cert.specs.Verdicts.{length_cause, gap_of, pin_cause, vertices, vertex_cause, value_cause, first_of, cause_of, verdict_by}
 use Rattle.flow_cert.specs.Meaning.{IsNetwork, Means, AYesMeansFewest}
 use Rattle.flow_cert.proofs.Bounds.{laid-starts}
-use Rattle.flow_cert.proofs.Balances.{sum-is_total}
 
 -- ---- Without a cause
 some-is_no_none : {X : Type 0} (x : X) → Some x ≡ None → ⊥

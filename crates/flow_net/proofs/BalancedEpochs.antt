@@ -25,7 +25,7 @@ driver_epoch-level n levels sink (Input i) inputs some there = omega arith
 driver_epoch-level n levels sink (Gate k) inputs some there = get_or-map (λ level. level / n) levels k 0 sink there
 
 -- What holds of the uses by each gate holds of all uses by gates.
-All-gate_uses : (P : Use → Type 0) (user : ℕ) (rows : List GateRow) → ((k u : ℕ) (d : GateRow) → u ≡ user + k → k < length rows → All (λ driver. P (use_by u driver)) (get_or rows k d).pins) → All P (gate_uses user rows)
+pub All-gate_uses : (P : Use → Type 0) (user : ℕ) (rows : List GateRow) → ((k u : ℕ) (d : GateRow) → u ≡ user + k → k < length rows → All (λ driver. P (use_by u driver)) (get_or rows k d).pins) → All P (gate_uses user rows)
 All-gate_uses P user [] each = All-nil P
 All-gate_uses P user (row ∷ rows) each =
     All-append P (map (use_by user) row.pins) (gate_uses (suc user) rows)

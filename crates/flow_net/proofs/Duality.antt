@@ -35,7 +35,7 @@ low-arcs net few laid =
         ((omega arith, omega arith), (omega arith, omega arith))
 
 -- A sum over arcs at the potentials of some end of theirs, gathered by vertices.
-gathered : (flow : Flow) (p : ℕ → ℕ) (end : Arc → ℕ) (bound : ℕ) (arcs : List Arc) → All (λ arc. end arc < bound) arcs → total (λ arc. p (end arc) * units_on flow arc) arcs ≡ below (λ v. p v * sum_by (λ arc. cond (end arc == v) (units_on flow arc) 0) arcs) bound
+pub gathered : (flow : Flow) (p : ℕ → ℕ) (end : Arc → ℕ) (bound : ℕ) (arcs : List Arc) → All (λ arc. end arc < bound) arcs → total (λ arc. p (end arc) * units_on flow arc) arcs ≡ below (λ v. p v * sum_by (λ arc. cond (end arc == v) (units_on flow arc) 0) arcs) bound
 gathered flow p end bound arcs low =
     exchanged end (units_on flow) p bound arcs low
     ∙ (λ i. below (λ v. p v * is_sum_by (total (λ arc. cond (end arc == v) (units_on flow arc) 0)) (λ arc. cond (end arc == v) (units_on flow arc) 0) refl (λ x xs. refl) arcs i) bound)

@@ -22,10 +22,10 @@ below-chains epochs pins (suc drivers) =
     omega (arith, below-chains epochs pins drivers, sum_by_push (λ x. x) (chain_lengths epochs pins drivers) (chain_length epochs pins drivers))
 
 -- What vertices want.
-wants-gate : (net : Net) (k : ℕ) → k < net.gates → wants net (suc k) ≡ pos 1
+pub wants-gate : (net : Net) (k : ℕ) → k < net.gates → wants net (suc k) ≡ pos 1
 wants-gate net k low = let test : nat_lt k net.gates ≡ true = grind (arith, nat_tests) in rw test refl
 
-wants-sink : (net : Net) → wants net (suc net.gates) ≡ pos 0
+pub wants-sink : (net : Net) → wants net (suc net.gates) ≡ pos 0
 wants-sink net =
     let test : nat_lt net.gates net.gates ≡ false = grind (arith, nat_tests) in
     let same : (net.gates == net.gates) ≡ true = grind (arith, nat_tests) in

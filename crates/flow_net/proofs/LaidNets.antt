@@ -28,7 +28,7 @@ gate_users-low user (row ∷ rows) =
     All-append P (map (use_by user) row.pins) (gate_uses (suc user) rows) (All-map P (use_by user) row.pins (λ k d within. omega arith))
     (All-weaker (λ (one : Use). one.user < suc user + length rows) P (λ one h. omega arith) (gate_uses (suc user) rows) (gate_users-low (suc user) rows))
 
-users-low : (net : GateNet) → All (λ (one : Use). one.user < length net.gates + 2) (uses_of net)
+pub users-low : (net : GateNet) → All (λ (one : Use). one.user < length net.gates + 2) (uses_of net)
 users-low net =
     let P = λ (one : Use). one.user < length net.gates + 2 in
     let drivers = flat_map end_drivers net.outputs in

@@ -1,8 +1,10 @@
 -- Sums over lists, and sums over all numbers below a bound. A sum over a list may be gathered by a number of each item.
 use Rattle.std.proofs.Common.{◌≡◌, ◌<◌, ◌≤◌, ◌+◌, ◌*◌, ◌==◌, ◌∙◌, ℕ, zero, suc, false, true, cond, List, [], ◌∷◌, All, refl, sym, ap, arith, ⊎_elim}
+use Rattle.std.specs.List.{sum_by}
 use Rattle.std.proofs.lemmas.Bool.{cases_lt}
 use Rattle.std.proofs.lemmas.Bool.Decides.{nat_tests}
 use Rattle.std.proofs.lemmas.List.Elements.{All-head, All-tail}
+use Rattle.std.proofs.lemmas.List.Recursion.{is_sum_by}
 
 -- the sum of f over a list
 abbrev pub total : {X : Type 0} → (X → ℕ) → List X → ℕ
@@ -13,6 +15,10 @@ total f (x ∷ xs) = f x + total f xs
 abbrev pub below : (ℕ → ℕ) → ℕ → ℕ
 below f zero = 0
 below f (suc n) = below f n + f n
+
+-- It is the sum of std.
+pub sum-is_total : {X : Type 0} (f : X → ℕ) (xs : List X) → sum_by f xs ≡ total f xs
+sum-is_total f xs = sym (is_sum_by (total f) f refl (λ x xs. refl) xs)
 
 -- what one item adds at a vertex: the item's units at its own vertex, and nothing at another
 here : (p : ℕ → ℕ) (key v u : ℕ) → key ≡ v → p v * cond (key == v) u 0 ≡ p key * u

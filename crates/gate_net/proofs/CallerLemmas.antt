@@ -131,7 +131,7 @@ pub IsThere-more : (inputs few many : ℕ) → few ≤ many → (driver : Driver
 IsThere-more inputs few many more (Input i) there = there
 IsThere-more inputs few many more (Gate k) there = omega arith
 
-IsEndThere-more : (inputs few many : ℕ) → few ≤ many → (end : End) → IsEndThere inputs few end → IsEndThere inputs many end
+pub IsEndThere-more : (inputs few many : ℕ) → few ≤ many → (end : End) → IsEndThere inputs few end → IsEndThere inputs many end
 IsEndThere-more inputs few many more Zero there = there
 IsEndThere-more inputs few many more One there = there
 IsEndThere-more inputs few many more (From driver) there = IsThere-more inputs few many more driver there

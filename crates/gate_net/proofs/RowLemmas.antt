@@ -4,6 +4,7 @@ use Rattle.std.specs.Bool.{Decides}
 use Rattle.std.specs.Cmp.Lexicographic.{pointwise, pointwise_decides}
 use Rattle.std.proofs.lemmas.Bool.Decides.{Decides-like, Decides-and}
 use denote.Enum.Bare.{sameb, same_true, true_same}
+use Rattle.std.proofs.lemmas.Bool.{false_from_ne_true}
 use Rattle.cell_lib.specs.contracts.cell.Cell.{the_type}
 use Rattle.gate_net.specs.contracts.row.DriverPartialEq.TheImpl.{eq-value as driver_equal}
 use Rattle.gate_net.specs.contracts.row.GateRowPartialEq.TheImpl.{eq-value as row_equal}
@@ -31,10 +32,6 @@ row_equal-decides g h =
     (same_true the_type tt g.cell h.cell, true_same the_type g.cell h.cell)
     (pointwise_decides driver_equal-decides g.pins h.pins))
 
-is_false : (b : Bool) → (b ≡ true → ⊥) → b ≡ false
-is_false true never = absurd (never refl)
-is_false false never = refl
-
 -- A gate that is pushed behind an equal one changes no first place.
 pub first_place-push_present : (row other : GateRow) (rows : List GateRow) → is_some (first_place row rows) ≡ true → first_place other (rows ++ row ∷ []) ≡ first_place other rows
 first_place-push_present row other rows found = by (same_row other row) refl (first_place row rows) refl
@@ -54,7 +51,7 @@ first_place-push_new row other rows absent = by (row_equal.it row other) refl (f
     by : (b : Bool) → b ≡ row_equal.it row other → (o : Option ℕ) → o ≡ first_place row rows → first_place other (rows ++ row ∷ []) ≡ cond b (Some (length rows)) (first_place other rows)
     by b same (Some k) at = absurd (true≢false (ap is_some at ∙ absent))
     by false apart None at =
-        position-push_apart (same_row other) rows row (is_false (same_row other row) (λ e.
+        position-push_apart (same_row other) rows row (false_from_ne_true (same_row other row) (λ e.
         true≢false (sym ((row_equal-decides row other).1 (sym ((same_row-decides other row).0 e))) ∙ sym apart)))
     by true same None at =
         let one : row ≡ other = (row_equal-decides row other).0 (sym same) in

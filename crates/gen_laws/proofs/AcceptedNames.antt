@@ -1,7 +1,7 @@
 -- The numbers of names: where each name is among those that are numbered, it comes back from its number, and two names are
 -- equal exactly where their numbers are.
-use Rattle.std.proofs.Common.{◌≡◌, ◌<◌, ◌+◌, ◌++◌, ◌∙◌, ◌||◌, ℕ, Bool, true, false, not, cond, List, [], ◌∷◌, length, map, get_or, All, nat_eq, refl, sym, ap, arith, true≢false, if◌then◌else◌, ⊎_elim}
-use Rattle.std.specs.List.{list_any, position_or_len, IsDistinct, AllByRecursion}
+use Rattle.std.proofs.Common.{◌≡◌, ◌<◌, ◌+◌, ◌++◌, ◌∙◌, ◌||◌, ℕ, Bool, true, false, List, [], ◌∷◌, length, map, get_or, All, nat_eq, refl, sym, ap, true≢false, if◌then◌else◌, ⊎_elim}
+use Rattle.std.specs.List.{IsDistinct, AllByRecursion}
 use Rattle.std.specs.Str.{bytes_eq}
 use Rattle.std.proofs.lemmas.Bool.{or_cases, or_left, or_right, or_from, eqb-true, eq-eqb, both_ways, false_from_ne_true}
 use Rattle.std.proofs.lemmas.List.Elements.{All-head, All-tail, All-nil, All-cons, All-push}
@@ -10,10 +10,12 @@ use Rattle.std.proofs.lemmas.List.Sums.{passes_at_first}
 use Rattle.std.proofs.lemmas.Map.Keys.{IsDistinct-head, IsDistinct-tail}
 use Rattle.std.proofs.lemmas.Slice.Eq.{bytes_eq-Decides}
 use Rattle.net_base.specs.Keys.{is_among}
+use Rattle.net_base.proofs.CallerLemmas.{position-found}
 use Rattle.blif_model.specs.Names.{number_of, with_name, AreDistinctNames}
 use Rattle.blif_model.proofs.CallerLemmas.{distinct-cons}
 use Rattle.blif_read.specs.Signals.{with_names}
 use Rattle.blif_read.specs.Spelling.{IsPlainName}
+use Rattle.gen_laws.proofs.RandomNames.{same_name}
 
 -- names that are all among others
 abbrev pub AreAmong : List (List ℕ) → List (List ℕ) → Type 0
@@ -32,9 +34,6 @@ among-append names [] ys all more = more
 among-append names (x ∷ xs) ys all more = (all.0, among-append names xs ys all.1 more)
 
 -- A name among others is one of them.
-bytes-same : (name : List ℕ) → bytes_eq name name ≡ true
-bytes-same name = (bytes_eq-Decides name name).1 refl
-
 pub plain-among : (name : List ℕ) (names : List (List ℕ)) → All IsPlainName names → is_among bytes_eq name names ≡ true → IsPlainName name
 plain-among name [] plain e = absurd (true≢false (sym e))
 plain-among name (first ∷ names) plain e =
@@ -51,7 +50,7 @@ with_name-among name names = by (is_among bytes_eq name names) refl
     by true e = e
     by false e =
         list_any-append (bytes_eq name) names (name ∷ [])
-        ∙ or_right (is_among bytes_eq name names) (is_among bytes_eq name (name ∷ [])) (or_left (bytes_eq name name) false (bytes-same name))
+        ∙ or_right (is_among bytes_eq name names) (is_among bytes_eq name (name ∷ [])) (or_left (bytes_eq name name) false (same_name name))
 
 with_name-keeps : (name token : List ℕ) (names : List (List ℕ)) → is_among bytes_eq name names ≡ true → is_among bytes_eq name (with_name token names) ≡ true
 with_name-keeps name token names among = by (is_among bytes_eq token names)
@@ -85,15 +84,6 @@ with_names-plain (token ∷ tokens) names those plain =
 apart-absent : (name : List ℕ) (names : List (List ℕ)) → AllByRecursion (λ (other : List ℕ). bytes_eq name other ≡ false) names → is_among bytes_eq name names ≡ false
 apart-absent name [] apart = refl
 apart-absent name (other ∷ names) apart = or_from (bytes_eq name other) (is_among bytes_eq name names) apart.0 (apart-absent name names apart.1)
-
--- where something stands that passes
-position-found : {X : Type 0} (test : X → Bool) (xs : List X) → list_any test xs ≡ true → position_or_len test xs < length xs
-position-found test [] e = absurd (true≢false (sym e))
-position-found {X} test (x ∷ xs) e = by (test x) (position-found test xs) e
-  where
-    by : (b : Bool) → (list_any test xs ≡ true → position_or_len test xs < length xs) → (b || list_any test xs) ≡ true → cond (not b) (1 + position_or_len test xs) 0 < length (x ∷ xs)
-    by true rest e = omega arith
-    by false rest e = omega (arith, rest e)
 
 module _ (names : List (List ℕ)) where
   -- the number of a name

@@ -1,4 +1,4 @@
--- Names of a letter and a number: they are plain, and differ where their letters or their numbers do.
+-- Names of a letter and a number: they are plain, and differ where their letters or their numbers do. A name is itself.
 use Rattle.std.proofs.Common.{◌≡◌, ◌≢◌, ◌<◌, ◌≤◌, ◌+◌, ◌%◌, ◌^◌, ◌⊎◌, inl, inr, ℕ, zero, suc, Bool, true, false, List, [], ◌∷◌, ◌++◌, length, All, decimal, refl, ap, arith}
 use Rattle.std.specs.List.{IsDistinct, AllByRecursion}
 use Rattle.std.specs.Str.{bytes_eq}
@@ -20,7 +20,7 @@ digit-plain digit below = grind (arith, nat_tests)
 abbrev Plain : ℕ → Type 0
 Plain byte = is_plain_byte byte ≡ true
 
-decimal-plain : (number : ℕ) → number < 2 ^ 64 → All Plain (decimal number)
+pub decimal-plain : (number : ℕ) → number < 2 ^ 64 → All Plain (decimal number)
 decimal-plain = decimal_by_steps (λ number digits. All Plain digits)
     (λ number below. All-cons Plain (48 + number) [] (digit-plain number below) (All-nil Plain))
     (λ number digits some plain. All-push Plain digits (48 + number % 10) plain (digit-plain (number % 10) (omega arith)))

@@ -1,12 +1,11 @@
 -- Names of one letter and a number: they are plain, and differ where the letters or the numbers do.
-use Rattle.std.proofs.Common.{◌≡◌, ◌<◌, ◌≤◌, ◌+◌, ◌%◌, ◌++◌, ◌^◌, ◌∙◌, ◌&&◌, ℕ, zero, suc, Bool, true, false, List, [], ◌∷◌, length, All, nat_eq, refl, sym, ap, arith}
-use Rattle.std.specs.List.{AllByRecursion, AllPass}
+use Rattle.std.proofs.Common.{◌≡◌, ◌<◌, ◌≤◌, ◌+◌, ◌++◌, ◌^◌, ◌∙◌, ◌&&◌, ℕ, zero, suc, Bool, true, false, List, [], ◌∷◌, length, All, nat_eq, refl, sym, ap, arith}
+use Rattle.std.specs.List.{AllByRecursion}
 use Rattle.std.specs.Str.{bytes_eq}
 use Rattle.std.specs.Fmt.{decimal}
 use Rattle.std.proofs.lemmas.Bool.{or_left, or_right, or_parts, or_from, eqb-true, eqb-false}
-use Rattle.std.proofs.lemmas.Bool.Decides.{nat_tests}
-use Rattle.std.proofs.lemmas.Fmt.{decimal_by_steps, length-decimal-le, decimal_injective}
-use Rattle.std.proofs.lemmas.List.Elements.{All-nil, All-cons, All-push}
+use Rattle.std.proofs.lemmas.Fmt.{length-decimal-le, decimal_injective}
+use Rattle.std.proofs.lemmas.List.Elements.{All-nil, All-cons}
 use Rattle.std.proofs.lemmas.List.Folds.{list_any-append}
 use Rattle.std.proofs.lemmas.Map.Keys.{IsDistinct-cons}
 use Rattle.std.proofs.lemmas.Slice.Eq.{bytes_eq-Decides}
@@ -15,16 +14,7 @@ use Rattle.blif_model.specs.Names.{AreDistinctNames}
 use Rattle.blif_read.specs.Spelling.{is_plain_byte, IsPlainName}
 use Rattle.gen_blif.specs.Lines.{name_of}
 use Rattle.gen_laws.specs.RippleCarry.{bit_names}
-
-digit-plain : (digit : ℕ) → digit < 10 → is_plain_byte (48 + digit) ≡ true
-digit-plain digit small = grind (arith, nat_tests)
-
-decimal-plain : (number : ℕ) → number < 2 ^ 64 → AllPass is_plain_byte (decimal number)
-decimal-plain =
-    let Plain = λ (byte : ℕ). is_plain_byte byte ≡ true in
-    decimal_by_steps (λ number digits. AllPass is_plain_byte digits)
-    (λ number small. All-cons Plain (48 + number) [] (digit-plain number small) (All-nil Plain))
-    (λ number digits large plain. All-push Plain digits (48 + number % 10) plain (digit-plain (number % 10) (omega arith)))
+use Rattle.gen_laws.proofs.RandomNames.{decimal-plain, same_name}
 
 -- A plain letter and a number of five digits at most make a plain name.
 pub name-plain : (letter number : ℕ) → is_plain_byte letter ≡ true → number < 10 ^ 5 → IsPlainName (name_of letter number)
@@ -59,10 +49,6 @@ numbers-differ letter j k small small' differ = by (bytes_eq (name_of letter j) 
         let digits : decimal j ≡ decimal k = cc in
         absurd (differ (decimal_injective j k (omega arith) (omega arith) digits))
 
--- A name is itself.
-pub name-same : (name : List ℕ) → bytes_eq name name ≡ true
-name-same name = (bytes_eq-Decides name name).1 refl
-
 -- A name of one letter isn't among names of another.
 pub letter-absent : (letter other : ℕ) → nat_eq letter other ≡ false → (digits : List ℕ) (first count : ℕ) → is_among bytes_eq (letter ∷ digits) (bit_names other first count) ≡ false
 letter-absent letter other differ digits first zero = refl
@@ -88,7 +74,7 @@ number-among letter number first (suc count) from below = by (nat_eq number firs
     by true e later =
         let same : name_of letter first ≡ name_of letter number = ap (name_of letter) (sym (eqb-true number first e)) in
         or_left (bytes_eq (name_of letter number) (name_of letter first)) (is_among bytes_eq (name_of letter number) (bit_names letter (first + 1) count))
-        (ap (bytes_eq (name_of letter number)) same ∙ name-same (name_of letter number))
+        (ap (bytes_eq (name_of letter number)) same ∙ same_name (name_of letter number))
     by false e later =
         let differ = eqb-false number first e in
         or_right (bytes_eq (name_of letter number) (name_of letter first)) (is_among bytes_eq (name_of letter number) (bit_names letter (first + 1) count))

@@ -19,9 +19,10 @@ use Rattle.gen_blif.specs.declared.ripple_carry.TheConstants.{MAX_BITS}
 use Rattle.gen_blif.specs.Lines.{name_of}
 use Rattle.gen_laws.specs.Named.{FollowDrivers, IsInOrder, IsAccepted, DesignsInOrderAreAccepted}
 use Rattle.gen_laws.specs.RippleCarry.{bit_names, carry_name, next_tables, adder_design, AddersAreAccepted}
-use Rattle.gen_laws.proofs.RippleCarryNames.{name-plain, names-all, length-names, numbers-differ, name-same, letter-absent, number-among, names-distinct}
+use Rattle.gen_laws.proofs.RippleCarryNames.{name-plain, names-all, length-names, numbers-differ, letter-absent, number-among, names-distinct}
 use Rattle.gen_laws.proofs.RippleCarryTables.{inner-carry, by_carry, tables-are, length-next, targets, sum-driven}
 use Rattle.gen_laws.proofs.RippleCarryTexts.{adder-text}
+use Rattle.gen_laws.proofs.RandomNames.{same_name}
 
 -- whether a signal is driven
 abbrev driven_by : List (List ℕ) → List ℕ → Type 0
@@ -37,7 +38,7 @@ driven-more driven name other is =
 driven-last : (driven : List (List ℕ)) (name : List ℕ) → driven_by (driven ++ name ∷ []) name
 driven-last driven name =
     list_any-append (bytes_eq name) driven (name ∷ [])
-    ∙ or_right (is_among bytes_eq name driven) (is_among bytes_eq name (name ∷ [])) (or_left (bytes_eq name name) false (name-same name))
+    ∙ or_right (is_among bytes_eq name driven) (is_among bytes_eq name (name ∷ [])) (or_left (bytes_eq name name) false (same_name name))
 
 free-more : (driven : List (List ℕ)) (name other : List ℕ) → free_of driven name → bytes_eq name other ≡ false → free_of (driven ++ other ∷ []) name
 free-more driven name other free differ =

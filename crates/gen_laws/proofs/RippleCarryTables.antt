@@ -13,7 +13,8 @@ use Rattle.gen_blif.specs.declared.ripple_carry.TheConstants.{MAX_BITS}
 use Rattle.gen_blif.specs.Lines.{name_of}
 use Rattle.gen_laws.specs.Named.{NamedTable, IsNamedTable}
 use Rattle.gen_laws.specs.RippleCarry.{carry_name, on_table, first_tables, next_tables, adder_design}
-use Rattle.gen_laws.proofs.RippleCarryNames.{name-plain, name-same}
+use Rattle.gen_laws.proofs.RippleCarryNames.{name-plain}
+use Rattle.gen_laws.proofs.RandomNames.{same_name}
 
 -- The carry out of the last bit is the highest bit of the sum, and another is a carry.
 pub last-carry : (bits bit : ℕ) → bit + 1 ≡ bits → carry_name bits bit ≡ name_of 115 (bit + 1)
@@ -88,7 +89,7 @@ sum-here bits bit number names below from within later = by (nat_eq number bit) 
         let last = eqb-true (bit + 1) bits e in
         let number-is : number ≡ bit + 1 = omega arith in
         let same : carry_name bits bit ≡ name_of 115 number = last-carry bits bit last ∙ ap (name_of 115) (sym number-is) in
-        or_left (bytes_eq (name_of 115 number) (carry_name bits bit)) (is_among bytes_eq (name_of 115 number) names) (ap (bytes_eq (name_of 115 number)) same ∙ name-same (name_of 115 number))
+        or_left (bytes_eq (name_of 115 number) (carry_name bits bit)) (is_among bytes_eq (name_of 115 number) names) (ap (bytes_eq (name_of 115 number)) same ∙ same_name (name_of 115 number))
     behind false e above =
         let differ = eqb-false (bit + 1) bits e in
         or_right (bytes_eq (name_of 115 number) (carry_name bits bit)) (is_among bytes_eq (name_of 115 number) names) (later (grind (arith, differ)) above)
@@ -96,7 +97,7 @@ sum-here bits bit number names below from within later = by (nat_eq number bit) 
     by : (b : Bool) → nat_eq number bit ≡ b → is_among bytes_eq (name_of 115 number) (name_of 115 bit ∷ carry_name bits bit ∷ names) ≡ true
     by true e =
         let same : name_of 115 bit ≡ name_of 115 number = ap (name_of 115) (sym (eqb-true number bit e)) in
-        or_left (bytes_eq (name_of 115 number) (name_of 115 bit)) (is_among bytes_eq (name_of 115 number) (carry_name bits bit ∷ names)) (ap (bytes_eq (name_of 115 number)) same ∙ name-same (name_of 115 number))
+        or_left (bytes_eq (name_of 115 number) (name_of 115 bit)) (is_among bytes_eq (name_of 115 number) (carry_name bits bit ∷ names)) (ap (bytes_eq (name_of 115 number)) same ∙ same_name (name_of 115 number))
     by false e =
         let differ = eqb-false number bit e in
         or_right (bytes_eq (name_of 115 number) (name_of 115 bit)) (is_among bytes_eq (name_of 115 number) (carry_name bits bit ∷ names)) (behind (nat_eq (bit + 1) bits) refl (grind (arith, differ)))

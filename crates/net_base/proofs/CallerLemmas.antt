@@ -1,5 +1,6 @@
--- The lemmas that other crates cite: lists of answers per item, look-ups by key, answers that may be faults, and entries.
-use Rattle.std.proofs.Common.{◌≡◌, ◌<◌, ◌≤◌, ◌+◌, ◌++◌, ◌||◌, ◌∙◌, ℕ, zero, suc, Bool, true, false, cond, List, [], ◌∷◌, length, get_or, take, drop, map, All, nat_eq, refl, sym, ap, arith, true≢false}
+-- The lemmas that other crates cite: lists of answers per item, values of nodes, look-ups by key, answers that may be faults,
+-- entries, and items of lists.
+use Rattle.std.proofs.Common.{◌&&◌, not, false, ◌≡◌, ◌<◌, ◌≤◌, ◌+◌, ◌++◌, ◌||◌, ◌∙◌, ℕ, zero, suc, Bool, true, false, cond, List, [], ◌∷◌, length, get_or, take, drop, map, All, nat_eq, refl, sym, ap, arith, true≢false}
 use Rattle.std.specs.Prelude.{Some, None, Result, Ok, Err, unwrap_or}
 use Rattle.std.specs.Cmp.{nat_eq_equiv}
 use Rattle.std.specs.List.{AllByRecursion, IsDistinct, list_any}
@@ -8,9 +9,14 @@ use Rattle.std.proofs.lemmas.Bool.{or_from}
 use Rattle.std.proofs.lemmas.List.{take_all, take-take, take_at, length_push, get_or_at, get_or-take, at_drop_more}
 use Rattle.std.proofs.lemmas.List.Elements.{All-head, All-tail}
 use Rattle.std.proofs.lemmas.Map.Keys.{IsDistinct-head, IsDistinct-tail}
+use Rattle.net_base.specs.declared.graph.GNode.{GNode}
+use Rattle.net_base.specs.declared.graph.GNode.TheVariants.{Inp, Neg, Both}
+use Rattle.net_base.specs.Graph.{IsNodeAt}
+use Rattle.net_base.specs.NodeValues.{value_of}
 use Rattle.net_base.specs.Answers.{◌>>=◌}
 use Rattle.net_base.specs.Keys.{is_among}
 use Rattle.net_base.specs.PerItem.{per_item}
+pub use Rattle.net_base.proofs.Lists.{All-left, All-right, All-unmap, Contains-map, Contains-one, position-found}
 
 -- One answer per item, each from the answers before it.
 module _ {A X : Type 0} (answer : List A → X → A) where
@@ -65,6 +71,14 @@ module _ {A X : Type 0} (answer : List A → X → A) where
   pub per_item-more : (done : List A) (items : List X) (i : ℕ) (item : X) → i < length items → item ≡ get_or items i item → per_item answer (done ++ answer done item ∷ []) (drop (i + 1) items) ≡ per_item answer done (drop i items)
   per_item-more done items i item within read =
       ap (λ (x : X). per_item answer done (x ∷ drop (i + 1) items)) read ∙ sym (at_drop_more (per_item answer done) items i item within)
+
+-- A node reads values before its own alone.
+pub value_of-take : (row values : List Bool) (inputs place : ℕ) (node : GNode) → IsNodeAt inputs place node → value_of row (take place values) node ≡ value_of row values node
+value_of-take row values inputs place (Inp k) there = refl
+value_of-take row values inputs place (Neg a) there = ap not (get_or-take place values a false there.1)
+value_of-take row values inputs place (Both a b) there =
+    let low : a < place = omega (arith, there.1, there.2) in
+    λ i. get_or-take place values a false low i && get_or-take place values b false there.2 i
 
 -- Look-ups by key in a list of entries, as a map in insertion order has them. `test` tells the key that is sought.
 module _ {K X : Type 0} (test : K → Bool) where

@@ -1,6 +1,6 @@
 -- Scanning is right: a line that is scanned fits and stands at the front, and a line that fits and stands at the front is scanned.
 use Rattle.std.proofs.Common.{◌≡◌, ◌≤◌, ◌&&◌, ℕ, Bool, true, false, nat_le, List, [], ◌∷◌, ◌++◌, Option, Some, None, if◌then◌else◌, codes, refl, sym, ap, subst, ◌∙◌, arith}
-use Rattle.std.proofs.lemmas.Bool.{le-leb, leb-true}
+use Rattle.std.proofs.lemmas.Bool.{le-leb, leb-true, and_parts, and_from}
 use Rattle.std.proofs.lemmas.List.Elements.{All-head, All-tail}
 use Rattle.cell_lib.specs.declared.cell.Cell.{Cell}
 use Rattle.cell_lib.specs.declared.cell.Cell.TheVariants.{Dro, Not, And, Or, Xor, Maj}
@@ -55,13 +55,6 @@ is_none-true (x ∷ xs) is = absurd cc
 none-is_none : {A : Type 0} (xs : List A) → xs ≡ [] → is_none xs ≡ true
 none-is_none xs is = rw is refl
 
-both_true : (a b : Bool) → (a && b) ≡ true → (a ≡ true) × (b ≡ true)
-both_true true b is = (refl, is)
-both_true false b is = absurd cc
-
-true_both : (a b : Bool) → a ≡ true → b ≡ true → (a && b) ≡ true
-true_both a b first second = rw (first, second) refl
-
 -- A choice that gave something is of the first kind.
 chosen : {A : Type 0} (test : Bool) (some : Option A) (a : A) → (if test then some else None) ≡ Some a → (test ≡ true) × (some ≡ Some a)
 chosen true some a is = (refl, is)
@@ -86,7 +79,7 @@ module _ (format : ℕ) (net : PulseNet) (flow : Flow) (bytes : List ℕ) where
   clocked-scanned : (cell : Cell) (rest : List ℕ) (element : Element) (next : List ℕ) → bytes ≡ cell_word cell ++ rest → takes_elements net flow ≡ true → nat_le (format_for cell) format ≡ true → ReadsClocked cell rest element next
       → IsScanned (Body format net flow) bytes (ElementLine element) next
   clocked-scanned cell rest element next front open_yet in_format reads =
-      let both = both_true (is_none net.outputs) (takes_outputs flow) open_yet in
+      let both = and_parts (is_none net.outputs) (takes_outputs flow) open_yet in
       let few = leb-true (format_for cell) format in_format in
       let needs = element_format cell reads.stage reads.pins reads.out in
       let fits : ElementFits format net flow (Clocked cell reads.stage reads.pins reads.out) =
@@ -97,7 +90,7 @@ module _ (format : ℕ) (net : PulseNet) (flow : Flow) (bytes : List ℕ) where
   split-scanned : (rest : List ℕ) (element : Element) (next : List ℕ) → bytes ≡ codes "split" ++ rest → takes_elements net flow ≡ true → 1 ≤ format → ReadsSplit rest element next
       → IsScanned (Body format net flow) bytes (ElementLine element) next
   split-scanned rest element next front open_yet some reads =
-      let both = both_true (is_none net.outputs) (takes_outputs flow) open_yet in
+      let both = and_parts (is_none net.outputs) (takes_outputs flow) open_yet in
       let fits : ElementFits format net flow (Split reads.from reads.left reads.right) =
       record { pins = tt; small = reads.small; in_format = some; no_output = is_none-true net.outputs both.0; no_flow = is_none-true flow.pins both.1 } in
       let P : Element → Type 0 = λ e. IsScanned (Body format net flow) bytes (ElementLine e) next in
@@ -110,20 +103,20 @@ module _ (format : ℕ) (net : PulseNet) (flow : Flow) (bytes : List ℕ) where
       let choice = chosen (takes_inputs net flow) (input_at rest >> λ read. Some (InputLine read.0.0 read.0.1, read.1)) read is in
       let step = goes_on (input_at rest) _ read choice.1 in
       let input = input_at-sound rest step.0 step.1 in
-      let open_elements = both_true (is_none net.elements) (takes_elements net flow) choice.0 in
-      let open_outputs = both_true (is_none net.outputs) (takes_outputs flow) open_elements.1 in
+      let open_elements = and_parts (is_none net.elements) (takes_elements net flow) choice.0 in
+      let open_outputs = and_parts (is_none net.outputs) (takes_outputs flow) open_elements.1 in
       let P : Line × List ℕ → Type 0 = λ r. IsScanned (Body format net flow) bytes r.0 r.1 in
       let fits : InputFits net flow step.0.0.0 step.0.0.1 = record { named = input.1; small = input.2; no_element = is_none-true net.elements open_elements.0; no_output = is_none-true net.outputs open_outputs.0; no_flow = is_none-true flow.pins open_outputs.1 } in
       subst P (same_some step.2) (record { whole = front ∙ ap (λ more. codes "input" ++ more) input.0 ∙ sym (name_line-spread (codes "input") step.0.0.0 (wire_word step.0.0.1) step.0.1); fits = fits })
   body_line_at-sound (word.Clocked cell) rest front read is =
       let choice = chosen (takes_elements net flow && nat_le (format_for cell) format) (clocked_at cell rest >> λ read. Some (ElementLine read.0, read.1)) read is in
-      let both = both_true (takes_elements net flow) (nat_le (format_for cell) format) choice.0 in
+      let both = and_parts (takes_elements net flow) (nat_le (format_for cell) format) choice.0 in
       let step = goes_on (clocked_at cell rest) _ read choice.1 in
       let P : Line × List ℕ → Type 0 = λ r. IsScanned (Body format net flow) bytes r.0 r.1 in
       subst P (same_some step.2) (clocked-scanned cell rest step.0.0 step.0.1 front both.0 both.1 (clocked_at-sound cell rest step.0 step.1))
   body_line_at-sound word.Split rest front read is =
       let choice = chosen (takes_elements net flow && nat_le 1 format) (split_at rest >> λ read. Some (ElementLine read.0, read.1)) read is in
-      let both = both_true (takes_elements net flow) (nat_le 1 format) choice.0 in
+      let both = and_parts (takes_elements net flow) (nat_le 1 format) choice.0 in
       let step = goes_on (split_at rest) _ read choice.1 in
       let P : Line × List ℕ → Type 0 = λ r. IsScanned (Body format net flow) bytes r.0 r.1 in
       subst P (same_some step.2) (split-scanned rest step.0.0 step.0.1 front both.0 (leb-true 1 format both.1) (split_at-sound rest step.0 step.1))
@@ -186,17 +179,17 @@ line_at-complete (Phases format model phases) (LatencyLine latency) rest fits =
     let small = fits.1 in
     rw (number_line_at-complete (codes "latency") 1 4294967295 latency rest fits.1 fits.0 (omega arith)) refl
 line_at-complete (Body format net flow) (InputLine name wire) rest fits =
-    let open_outputs = true_both (is_none net.outputs) (takes_outputs flow) (none-is_none net.outputs fits.no_output) (none-is_none flow.pins fits.no_flow) in
-    let open_inputs = true_both (is_none net.elements) (takes_elements net flow) (none-is_none net.elements fits.no_element) open_outputs in
+    let open_outputs = and_from (is_none net.outputs) (takes_outputs flow) (none-is_none net.outputs fits.no_output) (none-is_none flow.pins fits.no_flow) in
+    let open_inputs = and_from (is_none net.elements) (takes_elements net flow) (none-is_none net.elements fits.no_element) open_outputs in
     rw (name_line-spread (codes "input") name (wire_word wire) rest, word_from-complete word.Input (32 ∷ (name ++ (wire_word wire ++ (10 ∷ rest)))), open_inputs, input_at-complete name wire rest fits.named fits.small) refl
 line_at-complete (Body format net flow) (ElementLine (Clocked cell stage pins out)) rest fits =
-    let open_yet = true_both (is_none net.outputs) (takes_outputs flow) (none-is_none net.outputs fits.no_output) (none-is_none flow.pins fits.no_flow) in
+    let open_yet = and_from (is_none net.outputs) (takes_outputs flow) (none-is_none net.outputs fits.no_output) (none-is_none flow.pins fits.no_flow) in
     let needs = element_format cell stage pins out in
     let few = fits.in_format in
     let in_format = le-leb (format_for cell) format (omega (arith, needs, few)) in
     rw (line-spread (cell_word cell) (stage ∷ (pins ++ out ∷ [])) rest, word_from-complete (word.Clocked cell) (spread (stage ∷ (pins ++ out ∷ [])) (10 ∷ rest)), open_yet, in_format, clocked_at-complete cell stage pins out rest fits.pins fits.small) refl
 line_at-complete (Body format net flow) (ElementLine (Split from left right)) rest fits =
-    let open_yet = true_both (is_none net.outputs) (takes_outputs flow) (none-is_none net.outputs fits.no_output) (none-is_none flow.pins fits.no_flow) in
+    let open_yet = and_from (is_none net.outputs) (takes_outputs flow) (none-is_none net.outputs fits.no_output) (none-is_none flow.pins fits.no_flow) in
     let others = All-tail IsSmall from (left ∷ right ∷ []) fits.small in
     let last = All-tail IsSmall left (right ∷ []) others in
     rw (

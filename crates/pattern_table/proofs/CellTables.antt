@@ -8,8 +8,8 @@ use Rattle.cell_lib.specs.declared.cell.Cell.TheVariants.{Dro, Not, And, Or, Xor
 use Rattle.cell_lib.specs.Cell.{arity_of, cell_value}
 use Rattle.cell_lib.proofs.CallerLemmas.{cell_value-IsPermutation}
 use Rattle.cut_word.specs.Table.{is_set, value_at, row_number, table_of}
+use Rattle.cut_word.proofs.CallerLemmas.{is_set-and, is_set-or, is_set-xor, is_set-complement, same_table, row_number-fits, table_of-bits, table_of-below}
 use Rattle.pattern_table.specs.Formula.{table_over}
-use Rattle.pattern_table.proofs.Bytes.{is_set-and, is_set-or, is_set-xor, is_set-complement, same_table, row-fits, table_of-bits, table_of-below}
 
 -- A table of eight bits whose bit at each place is the cell's value is the cell's table.
 table-from : (cell : Cell) (tables : List ℕ) (t : ℕ) → t < 256 → ((place : ℕ) → place < 8 → is_set t place ≡ cell_value cell (map (λ table. is_set table place) tables)) → t ≡ table_over cell tables
@@ -26,7 +26,7 @@ table_over-below cell tables = table_of-below (λ place. cell_value cell (map (�
 pub value_at-table_over : (cell : Cell) (tables : List ℕ) (values : List Bool) → length values ≤ 3 → value_at (table_over cell tables) values ≡ cell_value cell (map (λ table. value_at table values) tables)
 unfolding table_over
 value_at-table_over cell tables values few =
-    table_of-bits (λ place. cell_value cell (map (λ table. is_set table place) tables)) (row_number values) (row-fits values few)
+    table_of-bits (λ place. cell_value cell (map (λ table. is_set table place) tables)) (row_number values) (row_number-fits values few)
 
 -- A cell has one table over the same parts in any order.
 pub table_over-IsPermutation : (cell : Cell) (tables turned : List ℕ) → IsPermutation tables turned → table_over cell turned ≡ table_over cell tables

@@ -1,5 +1,4 @@
 mod AllHeads
-mod Bytes
 pub mod CallerLemmas
 mod CellTables
 mod Depths

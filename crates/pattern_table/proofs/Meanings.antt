@@ -2,16 +2,16 @@
 use Rattle.std.proofs.Common.{Option, ◌≡◌, ◌<◌, ◌≤◌, ◌+◌, ◌==◌, ◌∙◌, inl, inr, ℕ, zero, suc, Bool, true, false, List, [], ◌∷◌, length, map, take, slice_index, slice_index_or, Some, refl, sym, ap, subst, arith, eqb-true}
 use Rattle.std.specs.List.{All}
 use Rattle.std.specs.Option.{is_some, option_map, unwrap_or}
-use Rattle.std.proofs.lemmas.Bool.{cases_Bool, cond-true, cond-false, eq-eqb}
+use Rattle.std.proofs.lemmas.Bool.{agree_below_at, cases_Bool, cond-true, cond-false, eq-eqb}
 use Rattle.cell_lib.specs.declared.cell.Cell.{Cell}
 use Rattle.cell_lib.specs.Cell.{arity_of, junctions_of, cell_value}
-use Rattle.cut_word.specs.Table.{row_number, value_at}
+use Rattle.cut_word.specs.Table.{is_set, row_number, value_at}
+use Rattle.cut_word.proofs.CallerLemmas.{is_set-row_number, row_number-fits}
 use Rattle.pattern_table.specs.declared.formula.Formula.{Formula}
 use Rattle.pattern_table.specs.declared.heads.Part.{Part}
 use Rattle.pattern_table.specs.Formula.{leaf_tables, total}
 use Rattle.pattern_table.specs.Least.{least_cost, head_over, table_of_head, parts_of, all_heads, parts_at, place_from, has_formula}
 use Rattle.pattern_table.specs.Laws.{IsHeadOf, FormulasMeanTheirTables, LeavesMeanTheirTables}
-use Rattle.pattern_table.proofs.Bytes.{is_set-row_number, row-fits, leaf-one, leaf-two, leaf-three}
 use Rattle.pattern_table.proofs.Members.{Has, in-map, All-from-has}
 use Rattle.pattern_table.proofs.CellTables.{value_at-table_over}
 use Rattle.pattern_table.proofs.AllHeads.{tables_of, costs_of, length-tables, cell-head_with, cost-head_with, parts_of-head_with, table-head_over, AreAmong, IsOver, in-all_heads}
@@ -52,10 +52,20 @@ leaf-is (suc (suc (suc size))) (suc (suc zero)) within = (omega arith, omega ari
 leaf-is (suc (suc (suc zero))) (suc (suc (suc k))) within = absurd (omega arith)
 leaf-is (suc (suc (suc (suc size)))) (suc (suc (suc k))) within = absurd (omega arith)
 
+-- a leaf's table has at each place the leaf's bit of the place
+leaf-one : (place : ℕ) → place < 8 → is_set 0xAA place ≡ is_set place 0
+leaf-one place h = agree_below_at (is_set 0xAA) (λ p. is_set p 0) 8 place refl h
+
+leaf-two : (place : ℕ) → place < 8 → is_set 0xCC place ≡ is_set place 1
+leaf-two place h = agree_below_at (is_set 0xCC) (λ p. is_set p 1) 8 place refl h
+
+leaf-three : (place : ℕ) → place < 8 → is_set 0xF0 place ≡ is_set place 2
+leaf-three place h = agree_below_at (is_set 0xF0) (λ p. is_set p 2) 8 place refl h
+
 leaf-value : (k : ℕ) (values : List Bool) → k < 3 → length values ≤ 3 → value_at (slice_index leaf_tables k) values ≡ slice_index_or values k false
-leaf-value zero values low few = leaf-one (row_number values) (row-fits values few) ∙ is_set-row_number values 0
-leaf-value (suc zero) values low few = leaf-two (row_number values) (row-fits values few) ∙ is_set-row_number values 1
-leaf-value (suc (suc zero)) values low few = leaf-three (row_number values) (row-fits values few) ∙ is_set-row_number values 2
+leaf-value zero values low few = leaf-one (row_number values) (row_number-fits values few) ∙ is_set-row_number values 0
+leaf-value (suc zero) values low few = leaf-two (row_number values) (row_number-fits values few) ∙ is_set-row_number values 1
+leaf-value (suc (suc zero)) values low few = leaf-three (row_number values) (row_number-fits values few) ∙ is_set-row_number values 2
 leaf-value (suc (suc (suc k))) values low few = absurd (omega arith)
 
 pub leaf-means : LeavesMeanTheirTables

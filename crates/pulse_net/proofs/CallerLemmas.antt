@@ -1,5 +1,5 @@
--- The lemmas that other crates cite: a netlist that is wired breaks no rule, it unfolds to as many DROs as it has, and what
--- stays and what is added where elements follow elements.
+-- The lemmas that other crates cite: rows spread over ticks, a netlist that is wired breaks no rule, it unfolds to as many DROs
+-- as it has, and what stays and what is added where elements follow elements.
 use Rattle.std.proofs.Common.{◌≡◌, ◌≢◌, ◌+◌, ℕ, Bool, true, false, nat_eq, List, [], ◌∷◌, ◌++◌, refl, ap, ◌∙◌, arith}
 use Rattle.std.specs.Prelude.{Option, Some, None, unwrap_or, is_some, if◌then◌else◌}
 use Rattle.std.specs.Cmp.{nat_eq_equiv}
@@ -15,6 +15,8 @@ use Rattle.pulse_net.specs.Wired.{ElementsInTime}
 use Rattle.pulse_net.specs.Unfolding.{Unfolding, with_wire, dro_driver, pass_dro, add_gate, unfold_cell, unfold_element, unfold_elements}
 use Rattle.pulse_net.specs.Dros.{dros}
 use Rattle.pulse_net.proofs.InsertedWires.{with_wire-new}
+pub use Rattle.pulse_net.proofs.PulsesAreRowValues.SpreadRows.{spread-row, spread-clocked}
+pub use Rattle.pulse_net.proofs.PulsesAreRowValues.WindowLemma.{same_tick}
 pub use Rattle.pulse_net.proofs.UnbrokenIsWired.{unbroken}
 pub use Rattle.pulse_net.proofs.UnfoldsItsDros.{unfolds_its_dros}
 

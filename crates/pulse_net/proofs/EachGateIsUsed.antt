@@ -2,17 +2,16 @@
 -- here on, or by an output, has a driver that drives a pin of a gate, or an output. A gate's pin is one. A DRO or a splitter
 -- makes a wire with the same driver; that wire is used, and not before it is made, so by a later element or an output, of
 -- which this is known. And the wire of each gate is used.
-use Rattle.std.proofs.Common.{◌≡◌, ◌<◌, ◌≤◌, ◌+◌, ◌⊎◌, ℕ, zero, suc, true, nat_eq, List, [], ◌∷◌, ◌++◌, length, map, refl, sym, ap, subst, ◌∙◌, arith, append_assoc, Contains, ⊎_elim}
+use Rattle.std.proofs.Common.{◌≡◌, ◌<◌, ◌≤◌, ◌+◌, ◌⊎◌, ℕ, true, nat_eq, List, [], ◌∷◌, ◌++◌, length, map, refl, sym, ap, subst, ◌∙◌, arith, append_assoc, Contains, ⊎_elim}
 use Rattle.std.specs.Prelude.{Option, Some, None, flat_map, option_to_list}
 use Rattle.std.specs.Cmp.{nat_eq_equiv}
 use Rattle.std.specs.List.{IsDistinct, AllByRecursion}
 use Rattle.std.specs.Map.{keys_of}
 use Rattle.std.proofs.lemmas.Bool.{cases_lt, eqb-true}
-use Rattle.std.proofs.lemmas.List.{get_or-map, length-map}
 use Rattle.std.proofs.lemmas.List.Elements.{Contains-append_left, Contains-append_right, Contains-append_cases, recursion_from_All}
 use Rattle.std.proofs.lemmas.Map.Views.{Contains-from_any, list_any-from_Contains}
 use Rattle.net_base.specs.Keys.{is_among}
-use Rattle.net_base.proofs.CallerLemmas.{lookup-found}
+use Rattle.net_base.proofs.CallerLemmas.{lookup-found, Contains-one, Contains-map}
 use Rattle.cell_lib.specs.declared.cell.Cell.TheVariants.{Dro}
 use Rattle.gate_net.specs.declared.row.Driver.{Driver}
 use Rattle.gate_net.specs.declared.row.Driver.TheVariants.{Gate}
@@ -40,13 +39,6 @@ none x (k, within, is) = omega arith
 alone : {X : Type 0} (x : X) → Contains (x ∷ []) x
 alone x = (0, omega arith, refl)
 
-only : {X : Type 0} (x y : X) → Contains (x ∷ []) y → x ≡ y
-only x y (zero, within, is) = is
-only x y (suc k, within, is) = absurd (omega arith)
-
-mapped : {X Y : Type 0} (f : X → Y) (xs : List X) (x : X) → Contains xs x → Contains (map f xs) (f x)
-mapped f xs x (k, within, is) = (k, omega (arith, within, length-map xs f), get_or-map f xs k x (f x) within ∙ ap f is)
-
 -- ---- wires that aren't made yet
 
 -- what isn't made with more wires isn't made without them
@@ -62,23 +54,23 @@ pins-made : (n : ℕ) (a : Wires ℕ) (user : ℕ) (pins : List ℕ) → ArriveI
 pins-made n a user [] h wire new has = none wire has
 pins-made n a user (pin ∷ pins) h wire new has =
     ⊎_elim {C = ⊥}
-    (λ here. let made : found a wire ≡ Some h.0.0 = subst (λ w. found a w ≡ Some h.0.0) (only pin wire here) h.0.1 in cc)
+    (λ here. let made : found a wire ≡ Some h.0.0 = subst (λ w. found a w ≡ Some h.0.0) (Contains-one pin wire here) h.0.1 in cc)
     (λ there. pins-made n a user pins h.1 wire new there)
     (Contains-append_cases (pin ∷ []) pins wire has)
 
 uses-made : (n : ℕ) (a : Wires ℕ) (element : Element) → ElementInTime n a element → (wire : ℕ) → found a wire ≡ None → Contains (element_uses element) wire → ⊥
 uses-made n a (Clocked cell stage pins out) h wire new has = pins-made n a stage pins h wire new has
 uses-made n a (Split from left right) h wire new has =
-    let made : found a wire ≡ Some h.0 = subst (λ w. found a w ≡ Some h.0) (only from wire has) h.1 in cc
+    let made : found a wire ≡ Some h.0 = subst (λ w. found a w ≡ Some h.0) (Contains-one from wire has) h.1 in cc
 
 -- what an element makes isn't made before it
 makes-new : (a : Wires ℕ) (element : Element) (rest : List ℕ) → IsDistinct nat_eq (keys_of a ++ (element_makes element ++ rest)) → (wire : ℕ) → Contains (element_makes element) wire → found a wire ≡ None
-makes-new a (Clocked cell stage pins out) rest distinct wire made = subst (λ w. found a w ≡ None) (only out wire made) (new_wire a out rest distinct)
+makes-new a (Clocked cell stage pins out) rest distinct wire made = subst (λ w. found a w ≡ None) (Contains-one out wire made) (new_wire a out rest distinct)
 makes-new a (Split from left right) rest distinct wire made =
     let behind = new_wire (a ++ (left, 0) ∷ []) right rest (behind_wire a left 0 (right ∷ rest) distinct) in
     ⊎_elim {C = found a wire ≡ None}
-    (λ first. subst (λ w. found a w ≡ None) (only left wire first) (new_wire a left (right ∷ rest) distinct))
-    (λ second. subst (λ w. found a w ≡ None) (only right wire second) (earlier a ((left, 0) ∷ []) right behind))
+    (λ first. subst (λ w. found a w ≡ None) (Contains-one left wire first) (new_wire a left (right ∷ rest) distinct))
+    (λ second. subst (λ w. found a w ≡ None) (Contains-one right wire second) (earlier a ((left, 0) ∷ []) right behind))
     (Contains-append_cases (left ∷ []) (right ∷ []) wire made)
 
 -- ---- each wire that is used leads to a gate's pin or an output
@@ -104,7 +96,7 @@ module _ (n : ℕ) (wires : Wires Driver) (outlets : List Outlet) where
       let driver = driver_of wires wire in
       let ends = flat_map end_drivers (map (end_of wires) outlets) in
       ⊎_elim {C = Contains (driver_of wires other ∷ ends) driver}
-      (λ here. subst (λ w. Contains (driver_of wires w ∷ ends) driver) (sym (only other wire here)) (Contains-append_left (driver ∷ []) ends driver (alone driver)))
+      (λ here. subst (λ w. Contains (driver_of wires w ∷ ends) driver) (sym (Contains-one other wire here)) (Contains-append_left (driver ∷ []) ends driver (alone driver)))
       (λ there. Contains-append_right (driver_of wires other ∷ []) ends driver (outlets-driven outlets wire there))
       (Contains-append_cases (other ∷ []) (flat_map outlet_uses outlets) wire has)
 
@@ -132,7 +124,7 @@ module _ (n : ℕ) (wires : Wires Driver) (outlets : List Outlet) where
   dro_reaches stage out (pin ∷ []) elements gates one pass used rest = record {
     by_wire = λ wire has.
         ⊎_elim {C = Contains (driven_from elements) (driver_of wires wire)}
-        (λ own. subst (Contains (driven_from elements)) (pass ∙ ap (driver_of wires) (only pin wire own)) (rest.by_wire out used))
+        (λ own. subst (Contains (driven_from elements)) (pass ∙ ap (driver_of wires) (Contains-one pin wire own)) (rest.by_wire out used))
         (λ behind. rest.by_wire wire behind)
         (used-cases (Clocked Dro stage (pin ∷ []) out) elements wire has);
     by_gate = rest.by_gate;
@@ -143,7 +135,7 @@ module _ (n : ℕ) (wires : Wires Driver) (outlets : List Outlet) where
   split_reaches from left right elements gates pass used rest = record {
     by_wire = λ wire has.
         ⊎_elim {C = Contains (driven_from elements) (driver_of wires wire)}
-        (λ own. subst (Contains (driven_from elements)) (pass.0 ∙ ap (driver_of wires) (only from wire own)) (rest.by_wire left used))
+        (λ own. subst (Contains (driven_from elements)) (pass.0 ∙ ap (driver_of wires) (Contains-one from wire own)) (rest.by_wire left used))
         (λ behind. rest.by_wire wire behind)
         (used-cases (Split from left right) elements wire has);
     by_gate = rest.by_gate;
@@ -155,7 +147,7 @@ module _ (n : ℕ) (wires : Wires Driver) (outlets : List Outlet) where
   gate_reaches element out pins elements gates uses driven more own used rest = record {
     by_wire = λ wire has.
         ⊎_elim {C = Contains (driven_from (element ∷ elements)) (driver_of wires wire)}
-        (λ pin. subst (λ l. Contains l (driver_of wires wire)) (sym driven) (Contains-append_left (map (driver_of wires) pins) (driven_from elements) (driver_of wires wire) (mapped (driver_of wires) pins wire (subst (λ l. Contains l wire) uses pin))))
+        (λ pin. subst (λ l. Contains l (driver_of wires wire)) (sym driven) (Contains-append_left (map (driver_of wires) pins) (driven_from elements) (driver_of wires wire) (Contains-map (driver_of wires) pins wire (subst (λ l. Contains l wire) uses pin))))
         (λ behind. further (driver_of wires wire) (rest.by_wire wire behind))
         (used-cases element elements wire has);
     by_gate = λ k low high.

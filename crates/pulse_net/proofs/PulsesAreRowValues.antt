@@ -1,6 +1,6 @@
 -- In a valid netlist the pulses are the row values, and so is what is read at the outputs.
-mod WindowLemma
-mod SpreadRows
+pub mod WindowLemma
+pub mod SpreadRows
 mod PulseInduction
 use Rattle.std.proofs.Common.{◌≡◌, ℕ, zero, suc, ◌+◌, ◌*◌, ◌%◌, ◌≤◌, Bool, false, List, [], ◌∷◌, get_or, sym, ◌∙◌, arith}
 use Rattle.std.specs.Prelude.{Option, slice_index_or}

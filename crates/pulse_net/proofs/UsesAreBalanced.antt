@@ -1,16 +1,15 @@
 -- What gaps in ticks say in epochs, of every use in a valid netlist: the user's epoch is the weight or more above the driver's,
 -- and its need is at most the number of the driver's DROs. A stage is n * epoch + phase, so a user that is reached after its
 -- driver is balanced by the law on gaps, and a gap of no more than d + 1 windows needs no more than d DROs.
-use Rattle.std.proofs.Common.{◌≡◌, ◌<◌, ◌≤◌, ◌+◌, ◌-◌, ◌*◌, ◌/◌, ◌%◌, ℕ, suc, List, [], ◌∷◌, length, map, get_or, All, sym, ap, subst, ◌∙◌, arith, ⊎_elim}
+use Rattle.std.proofs.Common.{◌≡◌, ◌<◌, ◌≤◌, ◌+◌, ◌-◌, ◌*◌, ◌/◌, ◌%◌, ℕ, suc, List, length, map, get_or, All, sym, ap, subst, ◌∙◌, arith, ⊎_elim}
 use Rattle.std.specs.Prelude.{flat_map}
 use Rattle.std.proofs.Math.Nat.{mul-le-mul_left}
 use Rattle.std.proofs.lemmas.Bool.{cases_lt}
 use Rattle.std.proofs.lemmas.Nat.{mod_below}
 use Rattle.std.proofs.lemmas.List.{length-map, get_or-map, get_or_past}
-use Rattle.std.proofs.lemmas.List.Elements.{All-nil, All-append, All-map}
+use Rattle.std.proofs.lemmas.List.Elements.{All-append, All-map}
 use Rattle.gate_net.specs.declared.row.Driver.{Driver}
 use Rattle.gate_net.specs.declared.row.Driver.TheVariants.{Input, Gate}
-use Rattle.gate_net.specs.declared.row.GateRow.{GateRow}
 use Rattle.gate_net.specs.Net.{end_drivers}
 use Rattle.gate_net.specs.Entries.{entry_of}
 use Rattle.phase_rule.specs.Levels.{phases_of}
@@ -21,6 +20,7 @@ use Rattle.flow_net.specs.declared.net.Epochs.{Epochs}
 use Rattle.flow_net.specs.Uses.{use_by, gate_uses, uses_of, sink_of}
 use Rattle.flow_net.specs.Network.{vertex_of, vertex_phase}
 use Rattle.flow_net.specs.Epochs.{epoch_at}
+use Rattle.flow_net.proofs.CallerLemmas.{All-gate_uses}
 use Rattle.pulse_net.specs.declared.net.PulseNet.{PulseNet}
 use Rattle.pulse_net.specs.Validity.{IsValid}
 use Rattle.pulse_net.specs.Unfolding.{end_of, epochs_of, unfolding_of, unfolded}
@@ -76,14 +76,6 @@ module _ (n : ℕ) (some : 0 < n) (stages : List ℕ) (sink : ℕ) (dros : List 
         enough = subst (λ k. k ≤ dros_behind dros driver) (sym need) both.1;
       }
 
--- What holds of the uses by each gate holds of all uses by gates.
-by_each_gate : (P : Use → Type 0) (user : ℕ) (rows : List GateRow) → ((k u : ℕ) (d : GateRow) → u ≡ user + k → k < length rows → All (λ driver. P (use_by u driver)) (get_or rows k d).pins) → All P (gate_uses user rows)
-by_each_gate P user [] each = All-nil P
-by_each_gate P user (row ∷ rows) each =
-    All-append P (map (use_by user) row.pins) (gate_uses (suc user) rows)
-    (All-map P (use_by user) row.pins (each 0 user row (omega arith) (omega arith)))
-    (by_each_gate P (suc user) rows (λ k u d at within. each (suc k) u d (omega arith) (omega arith)))
-
 -- In a valid netlist each use is met.
 pub uses-met : (net : PulseNet) → IsValid net → All (λ (one : Use). IsMet (unfolded net).phases (unfolded net).epochs (unfolding_of net).dros one.user one.driver) (uses_of (unfolded net).gates)
 uses-met net valid =
@@ -97,7 +89,7 @@ uses-met net valid =
     let long : length so.stages ≡ length so.gates = (followed net valid).each_stage in
     let outs = flat_map end_drivers (map (end_of so.wires) net.outputs) in
     let by_gates : All Met (gate_uses 1 so.gates) =
-    by_each_gate Met 1 so.gates
+    All-gate_uses Met 1 so.gates
     (λ k u d at within i e inside.
     let driver = get_or (get_or so.gates k d).pins i e in
     let place : k < length so.stages = omega arith in

@@ -2,25 +2,13 @@
 --
 -- Of the ticks so far, those from the last clock tick on are at most n, since of n ticks in a row one is a clock tick. At a
 -- clock tick they are n, or all where there was no clock tick before; and then there were fewer than n.
-use Rattle.std.proofs.Common.{◌≡◌, ℕ, zero, suc, ◌<◌, ◌≤◌, ◌+◌, ◌*◌, ◌/◌, ◌%◌, ◌⊎◌, inl, inr, Bool, true, false, ◌||◌, refl, sym, ap, ◌∙◌, ⊎_elim, arith, mod-lt, mod-eq_of_lt}
+use Rattle.std.proofs.Common.{◌≡◌, ℕ, zero, suc, ◌<◌, ◌≤◌, ◌+◌, ◌%◌, ◌⊎◌, inl, inr, Bool, true, false, ◌||◌, refl, sym, ap, ◌∙◌, ⊎_elim, arith, mod-lt, mod-eq_of_lt}
 use Rattle.std.specs.Prelude.{◌==◌, if◌then◌else◌}
 use Rattle.std.proofs.lemmas.Bool.{eqb-true, eq-eqb, true≢false, cases_order}
-use Rattle.std.proofs.Math.Nat.{div-add-mod, add-mod_right}
+use Rattle.std.proofs.Math.Nat.{add-mod_right}
 use Rattle.pulse_net.specs.Pulses.{Signal, pulsed_within}
+use Rattle.pulse_net.proofs.CallerLemmas.{same_tick}
 use Rattle.pulse_sim.specs.Simulators.{since_clock}
-
--- multiples of n at least n apart
-multiples_apart : (n a b : ℕ) → a < b → n * a + n ≤ n * b
-multiples_apart n a b h = grind arith
-
--- two ticks of one clock that are less than an epoch apart are one tick
-same_tick : (n a b : ℕ) → a % n ≡ b % n → a < b + n → b < a + n → a ≡ b
-same_tick n a b same above below =
-    let qa = div-add-mod a n in
-    let qb = div-add-mod b n in
-    ⊎_elim (λ e. sym qa ∙ ap (λ q. n * q + a % n) e ∙ ap (λ r. n * (b / n) + r) same ∙ qb)
-    (⊎_elim (λ l. let m = multiples_apart n (a / n) (b / n) l in absurd (omega arith)) (λ l. let m = multiples_apart n (b / n) (a / n) l in absurd (omega arith)))
-    (cases_order (a / n) (b / n))
 
 -- So many ticks are kept of the first ones, for a clock: all, where no clock tick is among them; and else those from a clock
 -- tick on, of which there are n at most.

@@ -5,6 +5,7 @@ use Rattle.std.specs.Prelude.{Option, Some, None, if◌then◌else◌}
 use Rattle.std.specs.List.{fold, range_with_len}
 use Rattle.std.proofs.Math.Seq.{get_or-append_seam, set-append_seam}
 use Rattle.std.proofs.lemmas.List.Sums.{fold-append}
+use Rattle.std.proofs.Math.Bool.{or-false}
 use Rattle.pulse_sim.specs.declared.site.PinBits.{PinBits}
 use Rattle.pulse_sim.specs.declared.site.Part.{Part}
 use Rattle.pulse_sim.specs.declared.site.Part.TheVariants.{Clocked, Split}
@@ -18,10 +19,6 @@ pub same-bits : {a a' b b' c c' : Bool} → a ≡ a' → b ≡ b' → c ≡ c' �
 same-bits {a} {a'} {b} {b'} {c} {c'} e f g =
     let bits : Bool → Bool → Bool → PinBits = λ a b c. record { first = a; second = b; third = c } in
     ap (λ x. bits x b c) e ∙ ap (λ x. bits a' x c) f ∙ ap (λ x. bits a' b' x) g
-
-or-false : (bit : Bool) → (bit || false) ≡ bit
-or-false true = refl
-or-false false = refl
 
 -- a pulse for another pin, and one for this pin
 other-pin : (bit pulse : Bool) → (bit || (pulse && false)) ≡ bit

@@ -5,7 +5,6 @@ mod ClockWindow
 mod PlacesOfWires
 mod TickStands
 mod MadeWires
-mod SpreadRows
 mod RunsAreRight
 mod Examples
 mod FiredSites

@@ -15,12 +15,12 @@ use Rattle.pulse_net.specs.declared.net.Outlet.{Outlet}
 use Rattle.pulse_net.specs.declared.net.Outlet.TheVariants.{Zero, One, Wire}
 use Rattle.pulse_net.specs.declared.net.PulseNet.{PulseNet}
 use Rattle.pulse_net.specs.Pulses.{pulsed_within, input_signal, outlet_signal, signals_of, spread, value_read}
+use Rattle.pulse_net.proofs.CallerLemmas.{spread-row, spread-clocked}
 use Rattle.pulse_sim.specs.Simulators.{SimState, StandsFor, tap_of, output_pulses}
 use Rattle.pulse_sim.specs.Reading.{digit, line_read}
 use Rattle.pulse_sim.specs.Running.{seen_before, HasRun, Feeds, with_shown}
 use Rattle.pulse_sim.proofs.LaterPulses.{Agree, signals-agree}
 use Rattle.pulse_sim.proofs.ClockWindow.{pulsed_within-none}
-use Rattle.pulse_sim.proofs.SpreadRows.{spread-row, spread-clocked}
 
 -- the first tick of an epoch is fed by its row, where there is one
 pub feeds-row : (net : PulseNet) (rows : List (List Bool)) (epoch : ℕ) (row : List Bool) → 1 ≤ net.phases → row ≡ slice_index_or rows epoch [] → Feeds net rows (net.phases * epoch) row

@@ -15,6 +15,7 @@ use Rattle.std.proofs.Math.Nat.{mul-add-mod_self_left, div-add-mod}
 use Rattle.std.proofs.lemmas.Bool.{eqb-true}
 use Rattle.std.proofs.lemmas.List.{map-append}
 use Rattle.std.proofs.lemmas.List.Elements.{recursion_from_All}
+use Rattle.std.proofs.Math.Bool.{or_comm}
 use Rattle.cell_lib.specs.declared.cell.Cell.{Cell}
 use Rattle.cell_lib.specs.declared.cell.Cell.TheVariants.{Dro, Not, And, Or, Xor, Maj}
 use Rattle.cell_lib.specs.Cell.{arity_of, cell_value}
@@ -42,12 +43,6 @@ or-false : (a : Bool) → (a || false) ≡ a
 or-false true = refl
 or-false false = refl
 
-or-comm : (a b : Bool) → (a || b) ≡ (b || a)
-or-comm true true = refl
-or-comm true false = refl
-or-comm false true = refl
-or-comm false false = refl
-
 -- a pin that isn't there is never set
 unset : (here : Bool) → ((not here && false) || false) ≡ false
 unset true = refl
@@ -58,7 +53,7 @@ kept-next : (here : Bool) (before signal : Signal) (tick kept : ℕ) (pulse : Bo
 kept-next true before signal tick kept pulse same e = e ∙ sym (ap (λ q. signal tick || q) (pulsed_within-none signal tick) ∙ or-false (signal tick))
 kept-next false before signal tick kept pulse same e =
     let up : kept + 1 ≡ suc kept = omega arith in
-    or-comm (pulsed_within before tick kept) pulse
+    or_comm (pulsed_within before tick kept) pulse
     ∙ ap₂ (λ p q. p || q) e (within-agrees tick before signal same tick kept (omega arith))
     ∙ sym (ap (pulsed_within signal (suc tick)) up)
 

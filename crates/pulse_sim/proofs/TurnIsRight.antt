@@ -11,6 +11,7 @@ use Rattle.std.proofs.Math.Seq.{get_or-append_seam}
 use Rattle.std.proofs.Math.ListN.{get_or-map, get_or-append}
 use Rattle.std.proofs.lemmas.List.FromFn.{length-map-range_with_len}
 use Rattle.std.proofs.lemmas.List.{map-append, take-append-drop, length-take-le, get_or-take}
+use Rattle.std.proofs.Math.Bool.{or_assoc}
 use Rattle.pulse_sim.specs.declared.site.PinBits.{PinBits}
 use Rattle.pulse_sim.specs.declared.site.Part.{Part}
 use Rattle.pulse_sim.specs.declared.site.Part.TheVariants.{Clocked, Split}
@@ -21,10 +22,6 @@ use Rattle.pulse_sim.specs.Roots.{parts_of, root_at, part_roots, input_root, inp
 use Rattle.pulse_sim.specs.Wakes.{no_bits, firings_of, deliveries_of, fired, delivered}
 use Rattle.pulse_sim.proofs.FiredSites.{so_far, site_with, wires_after, bits_after, site_after, pulses_after, wires-counted, wires-left, fire-right}
 use Rattle.pulse_sim.proofs.DeliveredPulses.{same-bits, coming, woken_bits, woken, deliver-right, parts-woken, none-woken, inputs-silent}
-
-or-assoc : (a b c : Bool) → ((a || b) || c) ≡ (a || (b || c))
-or-assoc true b c = refl
-or-assoc false b c = refl
 
 or-false : (bit : Bool) → (bit || false) ≡ bit
 or-false true = refl
@@ -83,7 +80,7 @@ module _ (phase : ℕ) (pulses : List Bool) where
       by (Some its_phase) = or-false (phase == its_phase && get_or pulses root.place false)
 
   bit-next : (bit : Bool) (roots : List (Option Root)) (place : Option ℕ) → ((bit || coming (Some phase) pulses (root_at roots place)) || coming None pulses (root_at roots place)) ≡ (bit || pulse_at (map (root_pulse phase pulses) roots) place)
-  bit-next bit roots place = or-assoc bit (coming (Some phase) pulses (root_at roots place)) (coming None pulses (root_at roots place)) ∙ ap (λ p. bit || p) (coming-both (root_at roots place) ∙ sym (pulse_at-root roots place))
+  bit-next bit roots place = or_assoc bit (coming (Some phase) pulses (root_at roots place)) (coming None pulses (root_at roots place)) ∙ ap (λ p. bit || p) (coming-both (root_at roots place) ∙ sym (pulse_at-root roots place))
 
   part-next : (roots : List (Option Root)) (part : Part) (bits : PinBits) → woken_bits None pulses roots part (woken_bits (Some phase) pulses roots part (bits_after phase part bits)) ≡ part_bits phase (map (root_pulse phase pulses) roots) part bits
   part-next roots (Split from) bits = refl

@@ -1,5 +1,5 @@
 -- Offers that are added one lot after another, and the labels that they are worked out from, which numbers hold.
-use Rattle.std.proofs.Common.{◌≡◌, ◌<◌, ◌+◌, ◌/◌, ◌%◌, ◌==◌, ◌&&◌, ◌∙◌, ◌++◌, ℕ, ℤ, pos, negsuc, ◌≤ℤ◌, Bool, true, false, not, cond, List, [], ◌∷◌, length, get_or, take, map, filter, Contains, refl, ap, sym, subst, arith}
+use Rattle.std.proofs.Common.{◌≡◌, ◌<◌, ◌+◌, ◌/◌, ◌==◌, ◌&&◌, ◌∙◌, ◌++◌, ℕ, ℤ, pos, negsuc, ◌≤ℤ◌, Bool, true, false, not, cond, List, [], ◌∷◌, length, get_or, take, map, filter, Contains, refl, ap, sym, subst, arith}
 use Rattle.std.specs.List.{flat_map}
 use Rattle.std.specs.List.Sorted.{IsPermutation}
 use Rattle.std.proofs.lemmas.Int.{ints}
@@ -15,7 +15,7 @@ use Rattle.stage_flow.specs.declared.offers.Offer.{Offer}
 use Rattle.stage_flow.specs.Residual.{Way, adding, taking, ways_on, ways_of, vertex_count}
 use Rattle.stage_flow.specs.Longest.{Reach}
 use Rattle.stage_flow.specs.Given.{IsNetwork}
-use Rattle.stage_flow.specs.Sending.{arc_by, pin_at, arc_at, residual, ways_by}
+use Rattle.stage_flow.specs.Sending.{arc_at, residual, ways_by}
 use Rattle.stage_flow.specs.Passes.{mark_at}
 use Rattle.stage_flow.specs.Mending.{is_open, offer_by, offers_of, AreAdded, IsOffered, AreHeld}
 use Rattle.stage_flow.proofs.SendingArcs.{arc_at-there}
@@ -54,13 +54,6 @@ pub ways_on-both : (flow : Flow) (arc : Arc) → 0 < units_on flow arc → ways_
 ways_on-both flow arc some =
     let test : (units_on flow arc == 0) ≡ false = grind (arith, nat_tests) in
     ap (λ b. adding arc ∷ cond b [] (taking arc ∷ [])) test
-
-pub arc_at-number : (net : Net) (number : ℕ) → (arc_at net number).number ≡ number
-arc_at-number net number = by (number % 2 == 0)
-  where
-    by : (even : Bool) → (arc_by even net (pin_at net (number / 2)) number).number ≡ number
-    by true = refl
-    by false = refl
 
 module _ (net : Net) (flow : Flow) (far : List ℤ) (hops : List ℕ) (stale : List Bool) (is : IsNetwork net) (held : AreHeld net flow far hops stale) where
   -- What a residual arc offers can be worked out.

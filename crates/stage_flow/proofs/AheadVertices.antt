@@ -7,7 +7,8 @@ use Rattle.stage_flow.specs.Passes.{mark_at}
 use Rattle.stage_flow.specs.Mending.{AreAhead}
 use Rattle.stage_flow.proofs.HalfwaySteps.{marked-before}
 
-head-or-rest : (first : ℕ) (rest : List ℕ) (vertex : ℕ) → Contains (first ∷ rest) vertex → (vertex ≡ first) ⊎ Contains rest vertex
+-- What a list has is its first item, or among the rest.
+pub head-or-rest : (first : ℕ) (rest : List ℕ) (vertex : ℕ) → Contains (first ∷ rest) vertex → (vertex ≡ first) ⊎ Contains rest vertex
 head-or-rest first rest vertex (zero, within, is) = inl (sym is)
 head-or-rest first rest vertex (suc k, within, is) = inr (k, omega arith, is)
 

@@ -3,7 +3,7 @@
 pub use Rattle.stage_flow.proofs.Walks.{IsNoBetter, no_better-test, test-no_better, no_better-same, no_better-through, both, reach-same, reach-tied, walk-push, reach_of-push, hops-is_length}
 pub use Rattle.stage_flow.proofs.Best.{the_best_is_attained, no_walk_is_better}
 pub use Rattle.stage_flow.proofs.Labels.{walk-fits, tight-from_same, same-from_tight, tight-nearer, tight_walk-nearer, tight_walk-push, tight_walk-short, IsLow, each_is_served, labels-for, wanting-low, hops-below}
-pub use Rattle.stage_flow.proofs.LabelBounds.{labels_are_best, labels_are_determined, IsShort, All-arcs, ways-short, far-within_hops}
+pub use Rattle.stage_flow.proofs.LabelBounds.{labels_are_best, labels_are_determined, IsShort, ways-short, far-within_hops}
 -- ---- Labels by a search
 pub use Rattle.stage_flow.proofs.Slacks.{raised, raised-fits, slack, AreDistances, far_by, far_by-fits, far_by-nothing, far_by-level, level-far_by}
 pub use Rattle.stage_flow.proofs.Depths.{searches_give_labels}
@@ -16,7 +16,7 @@ pub use Rattle.stage_flow.proofs.Ends.{numbers-apart, tight-kept, units_on-sent,
 pub use Rattle.stage_flow.proofs.OutMinusIn.{out_minus_in-along, out_minus_in-sent}
 pub use Rattle.stage_flow.proofs.Round.{ways-low, fits-labelled, level-tight, sender-low, the_best_to_a_layer, the_receiver_is_least, the_last_way_is_least, rounds_go_by_labels}
 -- ---- What the laws ask of a network
-pub use Rattle.stage_flow.proofs.NetworkEnds.{IsPinLow, ends-are_vertices, network-pins_low, network-ends, network-light}
+pub use Rattle.stage_flow.proofs.NetworkEnds.{IsPinLow, ends-are_vertices, network-pins_low, network-ends}
 pub use Rattle.stage_flow.proofs.Wanting.{wants-mirror, no_way_leaves_wanting}
 -- ---- That there are labels
 pub use Rattle.stage_flow.proofs.ShortWalks.{best_to-of_all}

@@ -1,32 +1,23 @@
 -- Counting units over a region, a set of vertices. Where no residual arc leaves it, no arc leaves it, and an arc that enters it
 -- carries nothing, since its reverse would leave. So over the region as many units leave vertices as enter them. All vertices
 -- together are such a region.
-use Rattle.std.proofs.Common.{◌≡◌, ◌≢◌, ◌<◌, ◌≤◌, ◌+◌, ◌-◌, ◌*◌, ◌==◌, ◌∙◌, ℕ, zero, suc, Bool, true, false, cond, List, [], ◌∷◌, ◌++◌, get_or, All, refl, sym, ap, arith, ⊎_elim}
-use Rattle.std.specs.List.{flat_map, sum_by}
+use Rattle.std.proofs.Common.{◌≡◌, ◌≢◌, ◌<◌, ◌≤◌, ◌+◌, ◌-◌, ◌*◌, ◌==◌, ◌∙◌, ℕ, zero, suc, Bool, true, false, cond, List, [], ◌∷◌, get_or, All, refl, sym, ap, arith, ⊎_elim}
+use Rattle.std.specs.List.{flat_map}
 use Rattle.std.proofs.lemmas.Bool.{cases_lt}
 use Rattle.std.proofs.lemmas.Bool.Decides.{nat_tests}
 use Rattle.std.proofs.lemmas.List.Elements.{All-nil, All-cons, All-head, All-tail, All-weaker}
-use Rattle.std.proofs.lemmas.List.Recursion.{is_sum_by}
+use Rattle.net_base.proofs.CallerLemmas.{All-left, All-right}
 use Rattle.flow_net.specs.declared.net.Pin.{Pin}
 use Rattle.flow_net.specs.declared.net.Net.{Net}
 use Rattle.flow_net.specs.declared.net.Flow.{Flow}
 use Rattle.flow_net.specs.Arcs.{Arc, forward_arc, back_arc, arcs_from, arcs_of}
 use Rattle.flow_net.specs.Flows.{units_on, units_out, units_in}
-use Rattle.flow_net.proofs.CallerLemmas.{total, below, exchanged}
+use Rattle.flow_net.proofs.CallerLemmas.{total, below, All-arcs_from, gathered}
 use Rattle.stage_flow.specs.Residual.{Way, adding, taking, ways_on, ways_of, vertex_count}
 use Rattle.stage_flow.specs.LawsOfSending.{NoneLeaves}
 use Rattle.stage_flow.proofs.Linked.{IsUpward}
 
 -- ---- Lists
--- What holds of all items of joined lists holds of all items of each.
-All-left : {X : Type 0} (P : X → Type 0) (xs ys : List X) → All P (xs ++ ys) → All P xs
-All-left P [] ys all = All-nil P
-All-left P (x ∷ xs) ys all = All-cons P x xs (All-head P x (xs ++ ys) all) (All-left P xs ys (All-tail P x (xs ++ ys) all))
-
-All-right : {X : Type 0} (P : X → Type 0) (xs ys : List X) → All P (xs ++ ys) → All P ys
-All-right P [] ys all = all
-All-right P (x ∷ xs) ys all = All-right P xs ys (All-tail P x (xs ++ ys) all)
-
 pub All-flat_map : {X Y : Type 0} (P : Y → Type 0) (f : X → List Y) (xs : List X) → All P (flat_map f xs) → All (λ x. All P (f x)) xs
 All-flat_map P f [] all = All-nil (λ x. All P (f x))
 All-flat_map P f (x ∷ xs) all =
@@ -42,22 +33,13 @@ pins-from_arcs P Q net gives place (pin ∷ pins) all =
     (gives pin place (All-head P (forward_arc place pin) (back_arc net place pin ∷ arcs_from net (place + 1) pins) all) (All-head P (back_arc net place pin) (arcs_from net (place + 1) pins) after))
     (pins-from_arcs P Q net gives (place + 1) pins (All-tail P (back_arc net place pin) (arcs_from net (place + 1) pins) after))
 
--- What holds of both arcs of each pin holds of all arcs.
-pub arcs-from_pins : (P : Arc → Type 0) (net : Net) (place : ℕ) (pins : List Pin) → All (λ pin. (at : ℕ) → P (forward_arc at pin) × P (back_arc net at pin)) pins → All P (arcs_from net place pins)
-arcs-from_pins P net place [] each = All-nil P
-arcs-from_pins P net place (pin ∷ pins) each =
-    let own = All-head (λ one. (at : ℕ) → P (forward_arc at one) × P (back_arc net at one)) pin pins each place in
-    let rest = arcs-from_pins P net (place + 1) pins (All-tail (λ one. (at : ℕ) → P (forward_arc at one) × P (back_arc net at one)) pin pins each) in
-    All-cons P (forward_arc place pin) (back_arc net place pin ∷ arcs_from net (place + 1) pins) own.0
-    (All-cons P (back_arc net place pin) (arcs_from net (place + 1) pins) own.1 rest)
-
 -- the two vertices of an arc are among the vertices
 abbrev pub IsAmong : ℕ → Arc → Type 0
 IsAmong vertices arc = (arc.tail < vertices) × (arc.head < vertices)
 
 pub arcs-among : (net : Net) → All (IsUpward net) net.pins → All (IsAmong (vertex_count net)) (arcs_of net)
 arcs-among net pins =
-    arcs-from_pins (IsAmong (vertex_count net)) net 0 net.pins
+    All-arcs_from (IsAmong (vertex_count net)) net 0 net.pins
     (λ k d within at. among (get_or net.pins k d) (pins k d within) at)
   where
     among : (pin : Pin) → IsUpward net pin → (at : ℕ) → IsAmong (vertex_count net) (forward_arc at pin) × IsAmong (vertex_count net) (back_arc net at pin)
@@ -71,12 +53,6 @@ arcs-among net pins =
 -- 1 in a region, and 0 outside
 abbrev pub one_in : (ℕ → Bool) → ℕ → ℕ
 one_in region vertex = cond (region vertex) 1 0
-
--- A sum over arcs at the prices of some end of theirs, gathered by vertices.
-pub gathered : (flow : Flow) (p : ℕ → ℕ) (end : Arc → ℕ) (bound : ℕ) (arcs : List Arc) → All (λ arc. end arc < bound) arcs → total (λ arc. p (end arc) * units_on flow arc) arcs ≡ below (λ v. p v * sum_by (λ arc. cond (end arc == v) (units_on flow arc) 0) arcs) bound
-gathered flow p end bound arcs low =
-    exchanged end (units_on flow) p bound arcs low
-    ∙ (λ i. below (λ v. p v * is_sum_by (total (λ arc. cond (end arc == v) (units_on flow arc) 0)) (λ arc. cond (end arc == v) (units_on flow arc) 0) refl (λ x xs. refl) arcs i) bound)
 
 -- an arc carries units only between vertices of the region, or outside it
 abbrev pub IsKept : Flow → (ℕ → Bool) → Arc → Type 0

@@ -10,7 +10,7 @@
 -- of these wants.
 use Rattle.std.proofs.Common.{◌≡◌, ◌<◌, ◌≤◌, ◌+◌, ◌-◌, ◌*◌, ◌∙◌, ℕ, zero, suc, Bool, true, false, cond, All, refl, sym, ap, subst, arith, ⊎_elim}
 use Rattle.std.proofs.Math.Nat.{mul-le-mul_left}
-use Rattle.std.proofs.lemmas.Bool.{cases_lt}
+use Rattle.std.proofs.lemmas.Bool.{cases_lt, false_from_ne_true}
 use Rattle.std.proofs.lemmas.Int.{ints}
 use Rattle.flow_net.specs.declared.net.Pin.{Pin}
 use Rattle.flow_net.specs.declared.net.Net.{Net}
@@ -18,10 +18,10 @@ use Rattle.flow_net.specs.declared.net.Flow.{Flow}
 use Rattle.flow_net.specs.Network.{network_of}
 use Rattle.flow_net.specs.Arcs.{mirror_of, arcs_of}
 use Rattle.flow_net.specs.Flows.{units_out, units_in}
-use Rattle.flow_net.proofs.CallerLemmas.{below, home}
+use Rattle.flow_net.proofs.CallerLemmas.{below, home, wants-gate, wants-sink}
 use Rattle.stage_flow.specs.Residual.{ways_of, vertex_count}
 use Rattle.stage_flow.specs.LawsOfSending.{IsPartFlow, SomeMirrorWants, NoneLeaves, NoneWants, NobodyIsCutOff}
-use Rattle.stage_flow.proofs.Wants.{wants-source, wants-gate, wants-sink, home-input, home-gate, below-homes, served, wanting-mirror}
+use Rattle.stage_flow.proofs.Wants.{wants-source, home-input, home-gate, below-homes, served, wanting-mirror}
 use Rattle.stage_flow.proofs.Linked.{IsUpward, IsLinked, networks-linked}
 use Rattle.stage_flow.proofs.Counting.{pins-from_arcs, one_in, IsKept, out_is_in, Stays, ways-stay, ways-kept, terms-same}
 
@@ -129,10 +129,6 @@ ones_back true c same h = refl
 ones_back false true same h = absurd (omega arith)
 ones_back false false same h = h
 
-pub never : (b : Bool) → (b ≡ true → ⊥) → b ≡ false
-never true h = absurd (h refl)
-never false h = refl
-
 module _ (net : Net) (flow : Flow) (region : ℕ → Bool) (linked : IsLinked net) (part : IsPartFlow net flow) (leaves : NoneLeaves (ways_of net flow) region) (none : NoneWants net flow region) where
   user : (driver : ℕ) → driver < net.drivers → (user : ℕ) × IsUser net region driver user
   user = user_of net region linked (ways-stay net flow region leaves)
@@ -213,7 +209,7 @@ module _ (net : Net) (flow : Flow) (region : ℕ → Bool) (linked : IsLinked ne
   -- But a mirror wants, so there is none.
   pub region-empty : SomeMirrorWants net flow → (vertex : ℕ) → vertex < vertex_count net → region vertex ≡ false
   region-empty (mirror, wanting) vertex low =
-      never (region vertex)
+      false_from_ne_true (region vertex)
       (λ inside.
       let found = wanting-mirror net flow mirror wanting in
       let all = ap region found.2 ∙ from_vertex vertex low inside found.0 found.1 in

@@ -1,18 +1,16 @@
 -- Labels that are right outside marked vertices. From a vertex that isn't marked a tight walk leads to a mirror that wants, over vertices that
 -- aren't marked, since each of them is sound and each tight arc leads one arc nearer. So a round goes by such labels from each sender that
 -- isn't marked. Labels that are right everywhere are right outside none.
-use Rattle.std.proofs.Common.{◌≡◌, ◌<◌, ◌≤◌, ◌+◌, ◌==◌, ◌∙◌, ◌-ℤ◌, ◌^◌, inl, inr, ℕ, zero, suc, ℤ, pos, Bool, true, false, List, [], ◌∷◌, length, map, All, Contains, refl, ap, sym, arith, true≢false, ⊎_elim}
-use Rattle.std.proofs.lemmas.Bool.{cases_lt, eq-eqb, ne_eqb}
+use Rattle.std.proofs.Common.{◌≡◌, ◌<◌, ◌+◌, ◌==◌, ◌∙◌, ◌-ℤ◌, ◌^◌, inl, inr, ℕ, zero, suc, ℤ, pos, Bool, true, false, List, [], ◌∷◌, length, map, All, Contains, refl, ap, sym, arith, true≢false}
+use Rattle.std.proofs.lemmas.Bool.{eq-eqb, ne_eqb}
 use Rattle.std.proofs.lemmas.Int.{ints}
-use Rattle.std.proofs.lemmas.List.{get_or_past, length-map}
 use Rattle.std.proofs.lemmas.List.Elements.{All-nil, All-cons, All-contains, All-contains_itself, All-weaker}
 use Rattle.flow_net.specs.declared.net.Net.{Net}
 use Rattle.flow_net.specs.declared.net.Flow.{Flow}
 use Rattle.stage_flow.specs.Residual.{ways_of, vertex_count}
 use Rattle.stage_flow.specs.Longest.{Reach}
 use Rattle.stage_flow.specs.Rounds.{is_wanting}
-use Rattle.stage_flow.specs.LawsOfWalks.{IsTight, AreLabels, AreLabelsFor, Serves, FitsWay, potential_by}
-use Rattle.stage_flow.specs.LawsOfEpochs.{Fits}
+use Rattle.stage_flow.specs.LawsOfWalks.{IsTight, AreLabels, AreLabelsFor, Serves}
 use Rattle.stage_flow.specs.Given.{IsNetwork, ArePotentials, at_vertex}
 use Rattle.stage_flow.specs.Passes.{mark_at}
 use Rattle.stage_flow.specs.Mending.{IsSound, AreRightOutside}
@@ -21,7 +19,7 @@ use Rattle.stage_flow.proofs.Labels.{IsLow, tight-nearer, hops-below}
 use Rattle.stage_flow.proofs.LabelBounds.{far-within_hops}
 use Rattle.stage_flow.proofs.Round.{ways-low, fits-labelled}
 use Rattle.stage_flow.proofs.ProgressNetworks.{vertices-few, light, ends-among}
-use Rattle.stage_flow.proofs.ProgressPotentials.{IsWithin, negated-at}
+use Rattle.stage_flow.proofs.ProgressPotentials.{IsWithin, negated-fit}
 
 -- ---- Where labels are right outside marked vertices
 module _ (net : Net) (flow : Flow) (far : ℕ → ℤ) (hops : ℕ → ℕ) (marks : List Bool) (right : AreRightOutside net flow far hops marks) where
@@ -114,18 +112,5 @@ kept-within net flow far hops marks is kept vertex within =
     (omega (arith, ints, near.0, few, all), omega (arith, ints, near.1, few, all))
 
 pub kept-negated : (net : Net) (flow : Flow) (far : List ℤ) (hops : ℕ → ℕ) (marks : List Bool) → IsNetwork net → AreKept net flow (at_vertex far) hops marks → length far ≡ vertex_count net → ArePotentials net flow (map (λ (z : ℤ). pos 0 -ℤ z) far)
-kept-negated net flow far hops marks is kept each = record {
-  each = length-map far (λ (z : ℤ). pos 0 -ℤ z) ∙ each;
-  low = λ vertex. omega (arith, ints, negated-at far vertex, (near vertex).1);
-  high = λ vertex. omega (arith, ints, negated-at far vertex, (near vertex).0);
-  fits =
-      All-weaker (FitsWay (potential_by (at_vertex far))) (Fits (at_vertex (map (λ (z : ℤ). pos 0 -ℤ z) far)))
-      (λ way fits. omega (arith, ints, fits, negated-at far way.tail, negated-at far way.head))
-      (ways_of net flow) (fits-labelled (at_vertex far) hops (ways_of net flow) kept.right.fits);
-}
-  where
-    near : (vertex : ℕ) → IsWithin (2 ^ 32) (at_vertex far vertex)
-    near vertex =
-        ⊎_elim {C = IsWithin (2 ^ 32) (at_vertex far vertex)} (λ (low : vertex < vertex_count net). kept-within net flow (at_vertex far) hops marks is kept vertex low)
-        (λ (past : vertex_count net ≤ vertex). let none = get_or_past far vertex (pos 0) (omega (arith, each)) in (omega (arith, ints, none), omega (arith, ints, none)))
-        (cases_lt vertex (vertex_count net))
+kept-negated net flow far hops marks is kept each =
+    negated-fit net flow far each (fits-labelled (at_vertex far) hops (ways_of net flow) kept.right.fits) (kept-within net flow (at_vertex far) hops marks is kept)

@@ -1,13 +1,14 @@
 -- Labels are determined, and small. By a tight walk to a wanting mirror a vertex's label in one labelling is attained, and in
 -- another nothing is better than its label; so it is one label. Its walk has no arc longer than 1, so the length is within the
 -- number of arcs, which is below the number of vertices.
-use Rattle.std.proofs.Common.{◌≡◌, ◌<◌, ◌≤◌, ◌+◌, ◌∙◌, ℕ, ℤ, pos, negsuc, ◌-ℤ◌, ◌≤ℤ◌, List, [], ◌∷◌, length, All, Contains, ap, sym, subst, arith, ⊎_elim}
+use Rattle.std.proofs.Common.{◌≡◌, ◌<◌, ◌≤◌, ◌∙◌, ℕ, ℤ, pos, negsuc, ◌-ℤ◌, ◌≤ℤ◌, List, [], ◌∷◌, length, All, Contains, ap, sym, subst, arith, ⊎_elim}
 use Rattle.std.proofs.lemmas.Int.{ints}
-use Rattle.std.proofs.lemmas.List.Elements.{All-nil, All-cons, All-head, All-tail, All-weaker, All-contains, All-contains_itself}
+use Rattle.std.proofs.lemmas.List.Elements.{All-weaker, All-contains, All-contains_itself}
 use Rattle.flow_net.specs.declared.net.Pin.{Pin}
 use Rattle.flow_net.specs.declared.net.Net.{Net}
 use Rattle.flow_net.specs.declared.net.Flow.{Flow}
-use Rattle.flow_net.specs.Arcs.{Arc, forward_arc, back_arc, arcs_from, arcs_of}
+use Rattle.flow_net.specs.Arcs.{Arc, forward_arc, back_arc, arcs_of}
+use Rattle.flow_net.proofs.CallerLemmas.{All-arcs_from}
 use Rattle.stage_flow.specs.Residual.{Way, ways_of, vertex_count}
 use Rattle.stage_flow.specs.Longest.{Reach}
 use Rattle.stage_flow.specs.LawsOfWalks.{IsWalk, reach_of, label, AreLabels, EndsAreVertices, LabelsAreDetermined, LabelsAreBest}
@@ -64,15 +65,6 @@ labels_are_best net flow far hops low labels v within =
 abbrev pub IsShort : ℤ → Type 0
 IsShort length = (negsuc 0 ≤ℤ length) × (length ≤ℤ pos 1)
 
--- What holds of both arcs of each pin holds of all arcs.
-pub All-arcs : (P : Arc → Type 0) (net : Net) (place : ℕ) (pins : List Pin) → All (λ pin. (at : ℕ) → P (forward_arc at pin) × P (back_arc net at pin)) pins → All P (arcs_from net place pins)
-All-arcs P net place [] each = All-nil P
-All-arcs P net place (pin ∷ pins) each =
-    let own = All-head (λ one. (at : ℕ) → P (forward_arc at one) × P (back_arc net at one)) pin pins each place in
-    let rest = All-arcs P net (place + 1) pins (All-tail (λ one. (at : ℕ) → P (forward_arc at one) × P (back_arc net at one)) pin pins each) in
-    All-cons P (forward_arc place pin) (back_arc net place pin ∷ arcs_from net (place + 1) pins) own.0
-    (All-cons P (back_arc net place pin) (arcs_from net (place + 1) pins) own.1 rest)
-
 pub ways-short : (net : Net) (flow : Flow) → All (λ pin. pin.weight ≤ 1) net.pins → All (λ way. IsShort way.length) (ways_of net flow)
 ways-short net flow light =
     All-weaker (Contains (ways_of net flow)) (λ way. IsShort way.length) each (ways_of net flow) (All-contains_itself (ways_of net flow))
@@ -81,7 +73,7 @@ ways-short net flow light =
     arc_short pin h at = ((omega (arith, ints), omega (arith, ints)), (omega (arith, ints), omega (arith, ints)))
 
     arcs_short : All (λ arc. IsShort arc.length) (arcs_of net)
-    arcs_short = All-arcs (λ arc. IsShort arc.length) net 0 net.pins (All-weaker (λ pin. pin.weight ≤ 1) (λ pin. (at : ℕ) → IsShort (forward_arc at pin).length × IsShort (back_arc net at pin).length) arc_short net.pins light)
+    arcs_short = All-arcs_from (λ arc. IsShort arc.length) net 0 net.pins (All-weaker (λ pin. pin.weight ≤ 1) (λ pin. (at : ℕ) → IsShort (forward_arc at pin).length × IsShort (back_arc net at pin).length) arc_short net.pins light)
 
     each : (way : Way) → Contains (ways_of net flow) way → IsShort way.length
     each way there =

@@ -18,9 +18,7 @@ use Rattle.stage_flow.proofs.LeastLengths.{potential_of, optimal-fits, labels-le
 use Rattle.stage_flow.proofs.SourceLabelsExist.{source_labels-exist}
 use Rattle.stage_flow.proofs.SolvingEpochs.{found-nothing}
 use Rattle.stage_flow.proofs.RoundLabels.{rounds-are_full, fewest-exist}
-
-cons-some : (one : Use) (uses : List Use) → one ∷ uses ≡ [] → ⊥
-cons-some one uses e = absurd (cc)
+use Rattle.stage_flow.proofs.RoundEpochs.{cons-some}
 
 pub least-exist : LeastEpochsExist
 least-exist net phases formed each = by (uses_of net) refl

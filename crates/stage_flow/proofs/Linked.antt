@@ -1,9 +1,9 @@
 -- The network of a netlist is linked: each driver has a pin, and each pin leads upwards from its driver's vertex to a gate or the
 -- sink. Where there is a driver there is a used input, since nothing but an input can drive the first gate.
-use Rattle.std.proofs.Common.{◌≡◌, ◌<◌, ◌≤◌, ◌+◌, ℕ, suc, List, [], ◌∷◌, ◌++◌, length, get_or, map, All, Any, refl, arith, ⊎_elim}
+use Rattle.std.proofs.Common.{◌≡◌, ◌<◌, ◌≤◌, ◌+◌, ℕ, List, [], ◌∷◌, ◌++◌, length, get_or, map, All, Any, refl, arith, ⊎_elim}
 use Rattle.std.specs.List.{flat_map}
 use Rattle.std.proofs.lemmas.Bool.{cases_lt}
-use Rattle.std.proofs.lemmas.List.Elements.{All-nil, All-append, All-map}
+use Rattle.std.proofs.lemmas.List.Elements.{All-append, All-map}
 use Rattle.cell_lib.proofs.CallerLemmas.{arity_of-some}
 use Rattle.gate_net.specs.declared.row.Driver.{Driver}
 use Rattle.gate_net.specs.declared.row.Driver.TheVariants.{Input, Gate}
@@ -17,20 +17,12 @@ use Rattle.flow_net.specs.declared.net.Net.{Net}
 use Rattle.flow_net.specs.Uses.{use_by, gate_uses, uses_of, sink_of, used_inputs}
 use Rattle.flow_net.specs.Network.{vertex_of, pin_of, network_of}
 use Rattle.flow_net.specs.DriverNumbers.{IsNumbered}
-use Rattle.flow_net.proofs.CallerLemmas.{uses-numbered, drivers_are_numbered, gates-le-uses, IsLaid, input-below, use-laid}
+use Rattle.flow_net.proofs.CallerLemmas.{uses-numbered, drivers_are_numbered, gates-le-uses, IsLaid, input-below, use-laid, All-gate_uses}
 
 -- a pin of a driver with a number, from the driver's vertex upwards to a gate or the sink
 pub record IsUpward (net : Net) (pin : Pin) : Type 0 where
   pub laid : IsLaid net pin
   pub upward : pin.from < pin.to
-
--- what holds of each use by the gates of rows
-All-gate_uses : (P : Use → Type 0) (user : ℕ) (rows : List GateRow) → ((k u : ℕ) (d : GateRow) → u ≡ user + k → k < length rows → All (λ driver. P (use_by u driver)) (get_or rows k d).pins) → All P (gate_uses user rows)
-All-gate_uses P user [] each = All-nil P
-All-gate_uses P user (row ∷ rows) each =
-    All-append P (map (use_by user) row.pins) (gate_uses (suc user) rows)
-    (All-map P (use_by user) row.pins (each 0 user row (omega arith) (omega arith)))
-    (All-gate_uses P (suc user) rows (λ k u d at within. each (suc k) u d (omega arith) (omega arith)))
 
 -- a use's user stands behind its driver, and no further than the sink
 abbrev IsBehind : ℕ → Use → Type 0

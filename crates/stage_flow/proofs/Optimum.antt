@@ -2,7 +2,7 @@
 -- as they cost; so by weak duality no balanced epochs cost less. The mirror of a driver has a potential that no pin's need passes, so
 -- the driver's chain ends below it; where a back arc carries units the chain ends just there, since the arc is tight. So on each arc
 -- with units the epochs, with chains behind them, rise by the arc's length, and the flow is worth what it gains: the DRO count.
-use Rattle.std.proofs.Common.{◌≡◌, ◌≤◌, ◌<◌, ◌+◌, ◌-◌, ◌==◌, inl, inr, ℕ, suc, ℤ, pos, ◌+ℤ◌, ◌-ℤ◌, ◌≤ℤ◌, Bool, true, false, cond, max, nat_lt, List, [], ◌∷◌, get_or, All, refl, ap, arith, ⊎_elim}
+use Rattle.std.proofs.Common.{◌≡◌, ◌≤◌, ◌<◌, ◌+◌, ◌-◌, ◌==◌, inl, inr, ℕ, ℤ, pos, ◌+ℤ◌, ◌-ℤ◌, ◌≤ℤ◌, Bool, true, false, cond, max, List, [], ◌∷◌, get_or, All, refl, ap, arith, ⊎_elim}
 use Rattle.std.proofs.lemmas.Bool.Decides.{nat_tests}
 use Rattle.std.proofs.lemmas.Int.{ints}
 use Rattle.std.proofs.lemmas.List.Elements.{All-head, All-tail, All-weaker}
@@ -13,20 +13,12 @@ use Rattle.flow_net.specs.declared.net.Epochs.{Epochs}
 use Rattle.flow_net.specs.Arcs.{mirror_of, forward_arc, back_arc, arcs_of}
 use Rattle.flow_net.specs.Flows.{IsFullFlow, flow_value}
 use Rattle.flow_net.specs.Epochs.{epoch_at, need_of, chain_length, dro_count, IsPinBalanced, IsBalanced, HasFewestDros}
-use Rattle.flow_net.proofs.CallerLemmas.{home, IsLaid, potential, potential-vertex, potential-mirror, rise-is_count, value-le_count}
+use Rattle.flow_net.proofs.CallerLemmas.{home, IsLaid, potential, potential-vertex, potential-mirror, rise-is_count, value-le_count, home-low}
 use Rattle.stage_flow.specs.LawsOfEpochs.{AreRises}
 use Rattle.stage_flow.proofs.ResidualArcs.{IsMet, All-pins, All-arcs_by, RisesAtMost, rise-le_value}
 
--- A driver's vertex is the source or a gate.
-pub home-below : (net : Net) (driver : ℕ) → net.gates ≤ net.drivers → driver < net.drivers → home net driver < net.gates + 2
-home-below net driver few low = by (nat_lt driver (net.drivers - net.gates)) (suc (driver - (net.drivers - net.gates))) (omega arith)
-  where
-    by : (b : Bool) (vertex : ℕ) → vertex < net.gates + 2 → cond b 0 vertex < net.gates + 2
-    by true vertex h = omega arith
-    by false vertex h = h
-
 pub from-below : (net : Net) → net.gates ≤ net.drivers → (pin : Pin) → IsLaid net pin → pin.from < net.gates + 2
-from-below net few pin laid = omega (arith, laid.starts, home-below net pin.driver few laid.numbered)
+from-below net few pin laid = omega (arith, laid.starts, home-low net pin.driver few laid.numbered)
 
 -- A chain ends below a bound that the driver and each of its pins' needs are below.
 pub chain-below : (epochs : Epochs) (driver base : ℕ) (bound : ℤ) → pos base ≤ℤ bound → (pins : List Pin) → All (λ pin. pin.driver ≡ driver → pos (base + need_of epochs pin) ≤ℤ bound) pins

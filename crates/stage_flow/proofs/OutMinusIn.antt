@@ -4,12 +4,11 @@ use Rattle.std.proofs.Common.{◌≡◌, ◌<◌, ◌+◌, ◌-◌, ◌*◌, ◌
 use Rattle.std.specs.List.{sum_by}
 use Rattle.std.proofs.lemmas.Int.{ints}
 use Rattle.std.proofs.lemmas.List.Elements.{Contains-get_or}
-use Rattle.std.proofs.lemmas.List.Recursion.{is_sum_by}
 use Rattle.flow_net.specs.declared.net.Net.{Net}
 use Rattle.flow_net.specs.declared.net.Flow.{Flow}
 use Rattle.flow_net.specs.Arcs.{Arc, arcs_of}
 use Rattle.flow_net.specs.Flows.{units_on, out_minus_in}
-use Rattle.flow_net.proofs.CallerLemmas.{total}
+use Rattle.flow_net.proofs.CallerLemmas.{total, sum-is_total}
 use Rattle.stage_flow.specs.Residual.{Way, ways_of}
 use Rattle.stage_flow.specs.Rounds.{moved, along, sent_along}
 use Rattle.stage_flow.specs.LawsOfWalks.{IsTightWalk, HasUnits, unit_at}
@@ -34,9 +33,6 @@ total-one f g (arc ∷ arcs) (suc k) e within same =
     let own = same 0 arc (omega arith) (λ h. absurd (omega arith)) in
     let rest = total-one f g arcs k e (omega arith) (λ j d inside differs. same (suc j) d (omega arith) (λ h. differs (omega arith))) in
     omega (arith, own, rest)
-
-pub sum-is_total : (f : Arc → ℕ) (arcs : List Arc) → sum_by f arcs ≡ total f arcs
-sum-is_total f arcs = sym (is_sum_by (total f) f refl (λ x xs. refl) arcs)
 
 -- the units at the ends of arcs at a vertex
 abbrev at_end : (Arc → ℕ) → Flow → ℕ → Arc → ℕ

@@ -1,6 +1,6 @@
 -- Potentials that fit: each vertex' own number before the first round, and how far it is by the labels, negated, after a round. A
 -- label is no farther than its number of arcs, and that is below the number of vertices.
-use Rattle.std.proofs.Common.{◌≡◌, ◌<◌, ◌≤◌, ◌+◌, ◌*◌, ◌^◌, ◌∙◌, inl, ℕ, zero, suc, ℤ, pos, negsuc, ◌+ℤ◌, ◌-ℤ◌, ◌≤ℤ◌, true, List, [], ◌∷◌, length, get_or, map, refl, ap, arith, ⊎_elim}
+use Rattle.std.proofs.Common.{◌≡◌, ◌<◌, ◌≤◌, ◌+◌, ◌*◌, ◌^◌, ◌∙◌, inl, ℕ, zero, suc, ℤ, pos, negsuc, ◌+ℤ◌, ◌-ℤ◌, ◌≤ℤ◌, true, List, [], ◌∷◌, length, get_or, map, All, refl, ap, arith, ⊎_elim}
 use Rattle.std.proofs.lemmas.Bool.{cases_lt}
 use Rattle.std.proofs.lemmas.Int.{ints}
 use Rattle.std.proofs.lemmas.List.{get_or_past, length-map}
@@ -9,6 +9,7 @@ use Rattle.flow_net.specs.declared.net.Pin.{Pin}
 use Rattle.flow_net.specs.declared.net.Net.{Net}
 use Rattle.flow_net.specs.declared.net.Flow.{Flow}
 use Rattle.flow_net.specs.Arcs.{forward_arc, back_arc, arcs_of}
+use Rattle.flow_net.proofs.CallerLemmas.{All-arcs_from}
 use Rattle.stage_flow.specs.Longest.{Reach}
 use Rattle.stage_flow.specs.Residual.{Way, ways_of, vertex_count}
 use Rattle.stage_flow.specs.Rounds.{no_units, is_wanting, after_round}
@@ -21,7 +22,6 @@ use Rattle.stage_flow.proofs.Round.{ways-low}
 use Rattle.stage_flow.proofs.Linked.{IsUpward}
 use Rattle.stage_flow.proofs.Sent.{nothing_on}
 use Rattle.stage_flow.proofs.ResidualArcs.{IsMet, ways-met}
-use Rattle.stage_flow.proofs.Counting.{arcs-from_pins}
 use Rattle.stage_flow.proofs.ProgressNetworks.{vertices-few, upward, light, ends-among, ways-short}
 
 -- ---- Labels
@@ -66,24 +66,30 @@ negated-at [] vertex = refl
 negated-at (z ∷ zs) zero = refl
 negated-at (z ∷ zs) (suc vertex) = negated-at zs vertex
 
--- The labels, negated, are potentials of the flow after the round.
-pub labels-negated : (net : Net) (flow : Flow) (far : List ℤ) (hops : ℕ → ℕ) (from mirror : ℕ) → IsNetwork net → AreLabels net flow (at_vertex far) hops → length far ≡ vertex_count net → IsRound net flow (at_vertex far) hops from mirror
-    → ArePotentials net (after_round net flow) (map (λ (z : ℤ). pos 0 -ℤ z) far)
-labels-negated net flow far hops from mirror is labels each round = record {
+-- Numbers that fit, and are within bounds at vertices, are potentials once they are negated.
+pub negated-fit : (net : Net) (flow : Flow) (far : List ℤ) → length far ≡ vertex_count net → All (FitsWay (potential_by (at_vertex far))) (ways_of net flow) → ((vertex : ℕ) → vertex < vertex_count net → IsWithin (2 ^ 32) (at_vertex far vertex))
+    → ArePotentials net flow (map (λ (z : ℤ). pos 0 -ℤ z) far)
+negated-fit net flow far each fits within = record {
   each = length-map far (λ (z : ℤ). pos 0 -ℤ z) ∙ each;
   low = λ vertex. omega (arith, ints, negated-at far vertex, (near vertex).1);
   high = λ vertex. omega (arith, ints, negated-at far vertex, (near vertex).0);
   fits =
       All-weaker (FitsWay (potential_by (at_vertex far))) (Fits (at_vertex (map (λ (z : ℤ). pos 0 -ℤ z) far)))
       (λ way fits. omega (arith, ints, fits, negated-at far way.tail, negated-at far way.head))
-      (ways_of net (after_round net flow)) round.fits;
+      (ways_of net flow) fits;
 }
   where
     near : (vertex : ℕ) → IsWithin (2 ^ 32) (at_vertex far vertex)
     near vertex =
-        ⊎_elim {C = IsWithin (2 ^ 32) (at_vertex far vertex)} (λ (low : vertex < vertex_count net). far-within net flow (at_vertex far) hops is labels vertex low)
+        ⊎_elim {C = IsWithin (2 ^ 32) (at_vertex far vertex)} (within vertex)
         (λ (past : vertex_count net ≤ vertex). let none = get_or_past far vertex (pos 0) (omega (arith, each)) in (omega (arith, ints, none), omega (arith, ints, none)))
         (cases_lt vertex (vertex_count net))
+
+-- So the labels, negated, are potentials of the flow after the round.
+pub labels-negated : (net : Net) (flow : Flow) (far : List ℤ) (hops : ℕ → ℕ) (from mirror : ℕ) → IsNetwork net → AreLabels net flow (at_vertex far) hops → length far ≡ vertex_count net → IsRound net flow (at_vertex far) hops from mirror
+    → ArePotentials net (after_round net flow) (map (λ (z : ℤ). pos 0 -ℤ z) far)
+labels-negated net flow far hops from mirror is labels each round =
+    negated-fit net (after_round net flow) far each round.fits (far-within net flow (at_vertex far) hops is labels)
 
 -- ---- Before the first round
 module _ (net : Net) (potentials : List ℤ) (is : IsNetwork net) (each : length potentials ≡ vertex_count net) (own : (vertex : ℕ) → vertex < vertex_count net → at_vertex potentials vertex ≡ first_potential net vertex) where
@@ -106,7 +112,7 @@ module _ (net : Net) (potentials : List ℤ) (is : IsNetwork net) (each : length
     high = λ vertex. (near vertex).1;
     fits =
         ways-met (no_units net) p (arcs_of net)
-        (arcs-from_pins (IsMet (no_units net) p) net 0 net.pins
+        (All-arcs_from (IsMet (no_units net) p) net 0 net.pins
         (λ k d within at. arcs-met (get_or net.pins k d) at (upward net is k d within) (light net is k d within)));
   }
     where

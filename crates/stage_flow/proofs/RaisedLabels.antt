@@ -1,7 +1,7 @@
 -- Labels of marked vertices that are raised. A vertex is raised only where it is marked and the residual arcs out of it still fit. An arc
 -- out of any other vertex fits as before, since its head's label has no fewer arcs; and where it is tight, the head was not raised, since
 -- the arc didn't fit otherwise. So nothing changes at unmarked vertices, and marked ones stay dead unless they were raised.
-use Rattle.std.proofs.Common.{◌≡◌, ◌<◌, ◌≤◌, ◌+◌, ◌-◌, ◌^◌, ◌+ℤ◌, ◌==◌, ◌∙◌, ◌⊎◌, inl, inr, ℕ, zero, suc, ℤ, Bool, true, false, cond, List, [], ◌∷◌, length, get_or, set, take, drop, All, Contains, refl, ap, sym, subst, arith, true≢false, ⊎_elim}
+use Rattle.std.proofs.Common.{◌≡◌, ◌<◌, ◌≤◌, ◌+◌, ◌-◌, ◌^◌, ◌+ℤ◌, ◌==◌, ◌∙◌, ◌⊎◌, inl, inr, ℕ, ℤ, Bool, true, false, cond, List, [], ◌∷◌, length, get_or, set, take, drop, All, Contains, refl, ap, sym, subst, arith, true≢false, ⊎_elim}
 use Rattle.std.proofs.lemmas.Bool.{cases_eq, cases_lt, eqb-false}
 use Rattle.std.proofs.lemmas.Int.{ints}
 use Rattle.std.proofs.lemmas.List.{flat_map_more, take_more, drop_more, drop_all, get_or_past, get_or-set_same, get_or-set_other}
@@ -23,6 +23,7 @@ use Rattle.stage_flow.proofs.Walks.{no_better-test, test-no_better}
 use Rattle.stage_flow.proofs.Labels.{IsLow, tight-nearer}
 use Rattle.stage_flow.proofs.ProgressNetworks.{vertices-few, ends-among}
 use Rattle.stage_flow.proofs.SendingSearch.{ways_near, ways_by-near, near-to}
+use Rattle.stage_flow.proofs.AheadVertices.{head-or-rest}
 
 -- ---- Arcs that fit
 -- Whether an arc fits is a matter of lengths, and where it is level, of numbers of arcs.
@@ -95,10 +96,6 @@ lifted-one hops heights floor place vertex within there =
 -- the vertices of a list, from a place on, that are not at rest
 abbrev pub AreListedFrom : List ℕ → List ℕ → ℕ → Type 0
 AreListedFrom heights reached place = (vertex : ℕ) → (count_at heights vertex ≡ 0) ⊎ Contains (drop place reached) vertex
-
-head-or-rest : (first : ℕ) (rest : List ℕ) (vertex : ℕ) → Contains (first ∷ rest) vertex → (vertex ≡ first) ⊎ Contains rest vertex
-head-or-rest first rest vertex (zero, within, is) = inl (sym is)
-head-or-rest first rest vertex (suc k, within, is) = inr (k, omega arith, is)
 
 pub listed-next : (heights reached : List ℕ) (place : ℕ) → place < length reached → get_or reached place 0 < length heights → AreListedFrom heights reached place → AreListedFrom (set heights (get_or reached place 0) 0) reached (place + 1)
 listed-next heights reached place within there listed vertex =

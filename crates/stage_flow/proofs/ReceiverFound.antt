@@ -2,7 +2,7 @@
 -- a region that no residual arc leaves. It holds the vertex that they begin in; and nobody is cut off. So it holds a mirror that wants.
 use Rattle.std.proofs.Common.{◌≡◌, ◌<◌, ◌≤◌, ◌+◌, ◌-◌, ◌==◌, ℕ, zero, suc, Bool, true, false, cond, List, [], ◌∷◌, filter, Option, Some, None, is_some, All, refl, ap, subst, arith, ⊎_elim}
 use Rattle.std.specs.List.{flat_map, range_with_len}
-use Rattle.std.proofs.lemmas.Bool.{cases_lt}
+use Rattle.std.proofs.lemmas.Bool.{cases_lt, false_from_ne_true}
 use Rattle.std.proofs.lemmas.List.Elements.{All-nil, All-cons, All-head, All-tail, All-append, All-weaker}
 use Rattle.flow_net.specs.declared.net.Net.{Net}
 use Rattle.flow_net.specs.declared.net.Flow.{Flow}
@@ -16,7 +16,7 @@ use Rattle.stage_flow.specs.LawsOfSending.{IsPartFlow, SomeMirrorWants, SomeVert
 use Rattle.stage_flow.proofs.Linked.{IsLinked, networks-linked}
 use Rattle.stage_flow.proofs.Counting.{IsAmong, arcs-among}
 use Rattle.stage_flow.proofs.ReachedByWalks.{none-leaves_reached, reaches-from}
-use Rattle.stage_flow.proofs.CutOff.{region-empty, never}
+use Rattle.stage_flow.proofs.CutOff.{region-empty}
 use Rattle.stage_flow.proofs.Wants.{wanting-mirror, sender-low}
 use Rattle.stage_flow.proofs.AllRounds.{rounds-full}
 use Rattle.stage_flow.proofs.StillToSend.{sender-found}
@@ -91,7 +91,7 @@ receiver-found net flow from linked part some low =
     (λ missing.
     let unreached = (none-best (best_to net flow from) None (wanting net flow) missing).1 in
     let empty = region-empty net flow region linked part (none-leaves_reached ways from vertices heads low)
-    (λ vertex reached. never (is_wanting net flow vertex)
+    (λ vertex reached. false_from_ne_true (is_wanting net flow vertex)
     (λ wants.
     let mirror = wanting-mirror net flow vertex wants in
     let high = mirror.1 in

@@ -1,10 +1,11 @@
 -- Marked vertices that have become sound are unmarked. Whoever is unmarked stays sound, since no vertex is marked anew. A marked vertex that
 -- leads to one that is unmarked now is the tail of a tight arc into it, and is looked at again. At the end nobody is left to be looked at,
 -- so all marked vertices are dead.
-use Rattle.std.proofs.Common.{◌≡◌, ◌≢◌, ◌<◌, ◌∙◌, ◌++◌, ◌⊎◌, inl, inr, ℕ, zero, suc, ℤ, Bool, true, false, List, [], ◌∷◌, length, set, All, Contains, refl, ap, sym, subst, arith, true≢false, ⊎_elim}
+use Rattle.std.proofs.Common.{◌≡◌, ◌≢◌, ◌<◌, ◌∙◌, ◌++◌, ◌⊎◌, inl, inr, ℕ, ℤ, Bool, true, false, List, [], ◌∷◌, length, set, All, Contains, refl, ap, sym, subst, arith, true≢false, ⊎_elim}
 use Rattle.std.proofs.lemmas.Bool.{cases_eq}
 use Rattle.std.proofs.lemmas.List.{get_or-set_same, get_or-set_other}
 use Rattle.std.proofs.lemmas.List.Elements.{All-append, All-contains, All-weaker, All-contains_itself, Contains-append_left, Contains-append_right, Contains-append_cases}
+use Rattle.net_base.proofs.CallerLemmas.{Contains-one}
 use Rattle.flow_net.specs.declared.net.Net.{Net}
 use Rattle.flow_net.specs.declared.net.Flow.{Flow}
 use Rattle.stage_flow.specs.Residual.{Way, ways_of, vertex_count}
@@ -32,10 +33,6 @@ dead-unmarked net flow far hops marks vertex free =
     All-weaker (Contains (ways_of net flow)) (λ way. IsTight far hops way → way.tail ≡ vertex → mark_at marks vertex ≡ true → mark_at marks way.head ≡ true)
     (λ way there tight begins marked. absurd (true≢false (sym marked ∙ free))) (ways_of net flow) (All-contains_itself (ways_of net flow))
 
-only-one : (x y : ℕ) → Contains (x ∷ []) y → x ≡ y
-only-one x y (zero, within, is) = is
-only-one x y (suc k, within, is) = absurd (omega arith)
-
 -- A dead vertex is taken off those to be looked at.
 pub dead-but-fewer : (net : Net) (flow : Flow) (far : ℕ → ℤ) (hops : ℕ → ℕ) (marks : List Bool) (before after : List ℕ) (taken : ℕ) → before ≡ after ++ taken ∷ [] → IsDead net flow far hops marks taken → AreDeadBut net flow far hops marks before → AreDeadBut net flow far hops marks after
 dead-but-fewer net flow far hops marks before after taken is dead was =
@@ -45,7 +42,7 @@ dead-but-fewer net flow far hops marks before after taken is dead was =
     (λ listed.
     ⊎_elim {C = (mark_at marks way.head ≡ true) ⊎ Contains after way.tail} inr
     (λ last.
-    let same = only-one taken way.tail last in
+    let same = Contains-one taken way.tail last in
     inl (All-contains (λ (one : Way). IsTight far hops one → one.tail ≡ taken → mark_at marks taken ≡ true → mark_at marks one.head ≡ true) (ways_of net flow) way dead there tight (sym same) (ap (mark_at marks) same ∙ marked)))
     (Contains-append_cases after (taken ∷ []) way.tail (subst (λ xs. Contains xs way.tail) is listed)))
     (All-contains (λ (one : Way). IsTight far hops one → mark_at marks one.tail ≡ true → (mark_at marks one.head ≡ true) ⊎ Contains before one.tail) (ways_of net flow) way was there tight marked))
@@ -109,7 +106,7 @@ module _ (net : Net) (flow : Flow) (far : ℕ → ℤ) (hops : ℕ → ℕ) (mar
       (λ listed.
       ⊎_elim {C = (mark_at new way.head ≡ true) ⊎ Contains next way.tail}
       (λ left. inr (Contains-append_left after (tails_of far hops vertex (ways_near net flow vertex)) way.tail left))
-      (λ last. absurd (apart (sym (only-one vertex way.tail last))))
+      (λ last. absurd (apart (sym (Contains-one vertex way.tail last))))
       (Contains-append_cases after (vertex ∷ []) way.tail listed))
       (All-contains (λ (one : Way). IsTight far hops one → mark_at marks one.tail ≡ true → (mark_at marks one.head ≡ true) ⊎ Contains (after ++ vertex ∷ []) one.tail) (ways_of net flow) way was there tight (marked-before marks vertex way.tail marked)))
       (ways_of net flow) (All-contains_itself (ways_of net flow))

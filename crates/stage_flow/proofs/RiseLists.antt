@@ -7,10 +7,10 @@ use Rattle.std.proofs.lemmas.Int.{ints}
 use Rattle.std.proofs.lemmas.List.{length-map, get_or-map, map-set, set-set, set-get_or, get_or-set_same, get_or-set_other, get_or_past, nil_from_length}
 use Rattle.std.proofs.lemmas.List.Elements.{All-nil, All-append, All-push, All-weaker, All-contains, Contains-push}
 use Rattle.std.proofs.lemmas.List.Sorted.{IsPermutation-sym, IsPermutation-trans, IsPermutation-to_front, IsPermutation-append_left, IsPermutation-append_right, IsPermutation-middle}
+use Rattle.net_base.proofs.CallerLemmas.{All-left}
 use Rattle.stage_flow.specs.declared.offers.Offer.{Offer}
 use Rattle.stage_flow.specs.Mending.{Leaves}
 use Rattle.stage_flow.specs.Waiting.{joined}
-use Rattle.stage_flow.proofs.Supply.{All-left}
 
 -- ---- One list of many is written
 -- An offer is put at the end of a list.

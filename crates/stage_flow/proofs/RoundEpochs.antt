@@ -51,7 +51,7 @@ far-is_label net flow far farthest vertex low =
     let (reach, found, long) = farthest.attained vertex low in
     ap span found ∙ long
 
-cons-some : (one : Use) (uses : List Use) → one ∷ uses ≡ [] → ⊥
+pub cons-some : (one : Use) (uses : List Use) → one ∷ uses ≡ [] → ⊥
 cons-some one uses e = absurd (cc)
 
 -- Behind the gates each vertex has the sink's epoch.

@@ -13,6 +13,7 @@ use Rattle.flow_net.specs.Network.{network_of}
 use Rattle.flow_net.specs.Arcs.{forward_arc, back_arc, arcs_of}
 use Rattle.flow_net.specs.Flows.{flow_value}
 use Rattle.flow_net.specs.Epochs.{dro_count, HasFewestDros}
+use Rattle.flow_net.proofs.CallerLemmas.{weights-few, All-arcs_from}
 use Rattle.stage_flow.specs.Residual.{ways_of}
 use Rattle.stage_flow.specs.Rounds.{no_units, sender, receiver, path_of, sent_along, after_round, flow_after, rounds_of}
 use Rattle.stage_flow.specs.LawsOfWalks.{AreLabelsFor, FitsWay, potential_by}
@@ -22,8 +23,8 @@ use Rattle.stage_flow.specs.LawsOfEpochs.{epochs_by}
 use Rattle.stage_flow.specs.RoundEpochs.{epochs_of_nothing}
 use Rattle.stage_flow.specs.UnderWay.{first_potential}
 use Rattle.stage_flow.proofs.Linked.{IsUpward, IsLinked, networks-linked}
-use Rattle.stage_flow.proofs.NetworkEnds.{network-ends, network-light}
-use Rattle.stage_flow.proofs.Counting.{arcs-from_pins, below-left, below-ones}
+use Rattle.stage_flow.proofs.NetworkEnds.{network-ends}
+use Rattle.stage_flow.proofs.Counting.{below-left, below-ones}
 use Rattle.stage_flow.proofs.Wants.{sender-low}
 use Rattle.stage_flow.proofs.Sent.{nothing_on, no_units-part, sent-part}
 use Rattle.stage_flow.proofs.AllRounds.{all_received, received_by, received-le, some-wants, all-full}
@@ -52,7 +53,7 @@ sender-wanted net flow from linked part sends =
 first-fits : (net : Net) → All (IsUpward net) net.pins → All (λ pin. pin.weight ≤ 1) net.pins → All (FitsWay (first_potential net)) (ways_of net (no_units net))
 first-fits net upward light =
     ways-met (no_units net) (first_potential net) (arcs_of net)
-    (arcs-from_pins (IsMet (no_units net) (first_potential net)) net 0 net.pins (λ k d within at. met (get_or net.pins k d) at (upward k d within) (light k d within)))
+    (All-arcs_from (IsMet (no_units net) (first_potential net)) net 0 net.pins (λ k d within at. met (get_or net.pins k d) at (upward k d within) (light k d within)))
   where
     met : (pin : Pin) (at : ℕ) → IsUpward net pin → pin.weight ≤ 1 → IsMet (no_units net) (first_potential net) (forward_arc at pin) × IsMet (no_units net) (first_potential net) (back_arc net at pin)
     met pin at up short = (
@@ -110,7 +111,7 @@ module _ (net : GateNet) (phases : List ℕ) (formed : IsGateNet net) (each : Ea
   kept zero = record {
     part = no_units-part whole;
     potential = first_potential whole;
-    fits = first-fits whole (networks-linked net phases formed each).pins (network-light net phases);
+    fits = first-fits whole (networks-linked net phases formed each).pins (weights-few net phases);
   }
   kept (suc rounds) = kept-next (flow_after whole rounds) (kept rounds)
 

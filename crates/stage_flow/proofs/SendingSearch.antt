@@ -3,9 +3,9 @@
 -- through, so what was reached is what walks of tight arcs reach.
 use Rattle.std.proofs.Common.{◌≡◌, ◌<◌, ◌≤◌, ◌+◌, ◌/◌, ◌==◌, ◌∙◌, ◌++◌, ◌⊎◌, ◌||◌, ◌&&◌, inl, ℕ, zero, suc, ℤ, nat_eq, Bool, true, false, not, cond, List, [], ◌∷◌, length, get_or, map, filter, take, drop, All, Contains, Some, refl, ap, sym, subst, arith, true≢false, ⊎_elim, append_assoc, length-append}
 use Rattle.std.specs.List.{flat_map, IsDistinct}
-use Rattle.std.proofs.Math.Bool.{or_assoc}
+use Rattle.std.proofs.Math.Bool.{or_assoc, or-false}
 use Rattle.std.proofs.Math.Seq.{drop-cons}
-use Rattle.std.proofs.lemmas.Bool.{eqb-true, eq-eqb, or_left, or_right, or_cases, and_parts, and_from}
+use Rattle.std.proofs.lemmas.Bool.{eqb-true, eq-eqb, or_left, or_right, or_cases, and_parts, and_from, not-true}
 use Rattle.std.proofs.lemmas.List.{append-nil, take_all, take_more, take-append-le, map-append}
 use Rattle.std.proofs.lemmas.List.Folds.{list_any-append}
 use Rattle.std.proofs.lemmas.List.Sums.{fold-append}
@@ -167,10 +167,6 @@ record Leads (far : ℕ → ℤ) (hops : ℕ → ℕ) (marks : List Bool) (ways 
   free : mark_at marks way.head ≡ false
   ends : way.head ≡ to
 
-not-true : (b : Bool) → not b ≡ true → b ≡ false
-not-true true is = absurd (true≢false (sym is))
-not-true false is = refl
-
 among-head : (far : ℕ → ℤ) (hops : ℕ → ℕ) (marks : List Bool) (vertex : ℕ) (ways : List Way) (x : ℕ) → is_among nat_eq x (heads_of far hops marks vertex ways) ≡ true → Leads far hops marks ways vertex x
 among-head far hops marks vertex [] x among = absurd (true≢false (sym among))
 among-head far hops marks vertex (first ∷ ways) x among = by (leads_on far hops marks vertex first) refl among (among-head far hops marks vertex ways x)
@@ -196,10 +192,6 @@ among-head far hops marks vertex (first ∷ ways) x among = by (leads_on far hop
     by false own among next = later (next among)
 
 -- ---- Keys among those that were inserted
-or-false : (b : Bool) → (b || false) ≡ b
-or-false true = refl
-or-false false = refl
-
 key-grows : (keys : List ℕ) (key : ℕ) → (more : List ℕ) × (insert_key nat_eq keys key ≡ keys ++ more)
 key-grows keys key = by (is_among nat_eq key keys)
   where

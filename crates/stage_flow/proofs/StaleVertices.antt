@@ -8,6 +8,7 @@ use Rattle.std.proofs.Math.Seq.{drop-cons}
 use Rattle.std.proofs.lemmas.Bool.{cases_eq, eqb-true, eqb-false, eq-eqb, and_from}
 use Rattle.std.proofs.lemmas.List.{flat_map_more, take_more, get_or-set_same, get_or-set_other, length-set, map-append}
 use Rattle.std.proofs.lemmas.List.Elements.{All-append, All-nil, All-cons, All-filter, All-map, All-contains, All-weaker, All-contains_itself, filter-append, Contains-append_left, Contains-append_right, Contains-append_cases}
+use Rattle.net_base.proofs.CallerLemmas.{Contains-one}
 use Rattle.flow_net.specs.declared.net.Net.{Net}
 use Rattle.flow_net.specs.declared.net.Flow.{Flow}
 use Rattle.flow_net.specs.Arcs.{Arc}
@@ -184,10 +185,6 @@ spread-more net flow far hops marks vertices before after found ends each low id
             mark-other marks found way.head (λ same. true≢false (sym (eq-eqb way.head found same) ∙ apart)) ∙ onward (way.tail == found) refl (mark_at marks way.head) refl
 
 -- ---- Arcs that lead on
-only-one : (x y : ℕ) → Contains (x ∷ []) y → x ≡ y
-only-one x y (zero, within, is) = is
-only-one x y (suc k, within, is) = absurd (omega arith)
-
 any-there : {A : Type 0} (P : A → Type 0) (items : List A) (item : A) → Contains items item → P item → Any P items
 any-there P items item (k, within, is) holds = (k, item, within, is, holds)
 
@@ -252,7 +249,7 @@ looked-on {Rest} initial before after taken is rest looked vertex there =
     ⊎_elim {C = Contains after vertex ⊎ Rest vertex}
     (λ still.
     ⊎_elim {C = Contains after vertex ⊎ Rest vertex} (λ left. inl left)
-    (λ last. inr (subst Rest (only-one taken vertex last) rest))
+    (λ last. inr (subst Rest (Contains-one taken vertex last) rest))
     (Contains-append_cases after (taken ∷ []) vertex (subst (λ xs. Contains xs vertex) is still)))
     inr (looked vertex there)
 
@@ -262,7 +259,7 @@ looked-last {Rest} initial before after taken is looked vertex there =
     ⊎_elim {C = Contains after vertex ⊎ ((Some taken ≡ Some vertex) ⊎ Rest vertex)}
     (λ still.
     ⊎_elim {C = Contains after vertex ⊎ ((Some taken ≡ Some vertex) ⊎ Rest vertex)} (λ left. inl left)
-    (λ last. inr (inl (ap Some (only-one taken vertex last))))
+    (λ last. inr (inl (ap Some (Contains-one taken vertex last))))
     (Contains-append_cases after (taken ∷ []) vertex (subst (λ xs. Contains xs vertex) is still)))
     (λ rest. inr (inr rest)) (looked vertex there)
 

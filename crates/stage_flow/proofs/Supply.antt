@@ -8,7 +8,8 @@ use Rattle.std.proofs.lemmas.Bool.{cases_lt}
 use Rattle.std.proofs.lemmas.Int.{ints}
 use Rattle.std.proofs.lemmas.List.{get_or_past, nil_from_length}
 use Rattle.std.proofs.lemmas.List.FromFn.{length-map-range_with_len, get_or-map-range_with_len}
-use Rattle.std.proofs.lemmas.List.Elements.{All-nil, All-cons, All-head, All-tail, All-append, All-weaker, All-contains, All-get_or}
+use Rattle.std.proofs.lemmas.List.Elements.{All-nil, All-head, All-append, All-weaker, All-contains, All-get_or}
+use Rattle.net_base.proofs.CallerLemmas.{All-left, All-right, All-unmap}
 use Rattle.cell_lib.specs.declared.cell.Cell.TheVariants.{Not}
 use Rattle.cell_lib.proofs.CallerLemmas.{arity_of-some}
 use Rattle.gate_net.specs.declared.row.Driver.{Driver}
@@ -30,25 +31,13 @@ use Rattle.stage_flow.proofs.ResidualArcs.{IsMet, met-ways, adding-ways, All-pin
 use Rattle.stage_flow.proofs.Optimum.{from-below}
 
 -- ---- Lists
-pub All-left : {X : Type 0} (P : X → Type 0) (xs ys : List X) → All P (xs ++ ys) → All P xs
-All-left P [] ys each = All-nil P
-All-left P (x ∷ xs) ys each = All-cons P x xs (All-head P x (xs ++ ys) each) (All-left P xs ys (All-tail P x (xs ++ ys) each))
-
-pub All-right : {X : Type 0} (P : X → Type 0) (xs ys : List X) → All P (xs ++ ys) → All P ys
-All-right P [] ys each = each
-All-right P (x ∷ xs) ys each = All-right P xs ys (All-tail P x (xs ++ ys) each)
-
-pub All-unmapped : {X Y : Type 0} (P : Y → Type 0) (f : X → Y) (xs : List X) → All P (map f xs) → All (λ x. P (f x)) xs
-All-unmapped P f [] each = All-nil (λ x. P (f x))
-All-unmapped P f (x ∷ xs) each = All-cons (λ x. P (f x)) x xs (All-head P (f x) (map f xs) each) (All-unmapped P f xs (All-tail P (f x) (map f xs) each))
-
 -- What holds of the uses by gates holds of those by each.
 uses-by_gate : (Q : Use → Type 0) (user : ℕ) (rows : List GateRow) → All Q (gate_uses user rows) → (k : ℕ) (d : GateRow) (at : ℕ) → k < length rows → at ≡ user + k → All (λ driver. Q (use_by at driver)) (get_or rows k d).pins
 uses-by_gate Q user [] each k d at within is = absurd (omega arith)
 uses-by_gate Q user (row ∷ rows) each zero d at within is =
     let same : user ≡ at = omega arith in
     subst (λ v. All (λ driver. Q (use_by v driver)) row.pins) same
-    (All-unmapped Q (use_by user) row.pins (All-left Q (map (use_by user) row.pins) (gate_uses (suc user) rows) each))
+    (All-unmap Q (use_by user) row.pins (All-left Q (map (use_by user) row.pins) (gate_uses (suc user) rows) each))
 uses-by_gate Q user (row ∷ rows) each (suc k) d at within is =
     uses-by_gate Q (suc user) rows (All-right Q (map (use_by user) row.pins) (gate_uses (suc user) rows) each) k d at (omega arith) (omega arith)
 
@@ -115,7 +104,7 @@ module _ (net : GateNet) (Q : ℕ → Type 0) (formed : IsGateNet net) (source :
   sink-supplied : EachGateIsUsed net → uses_of net ≢ [] → Q (suc (length net.gates))
   sink-supplied used some = by (flat_map end_drivers net.outputs) refl
       (All-end_drivers net.inputs (length net.gates) net.outputs formed.outputs)
-      (All-unmapped GoesOn (use_by (sink_of net)) (flat_map end_drivers net.outputs) (All-right GoesOn (gate_uses 1 net.gates) last_uses goes))
+      (All-unmap GoesOn (use_by (sink_of net)) (flat_map end_drivers net.outputs) (All-right GoesOn (gate_uses 1 net.gates) last_uses goes))
     where
       by : (drivers : List Driver) → flat_map end_drivers net.outputs ≡ drivers → All (IsThere net.inputs (length net.gates)) drivers → All (λ driver. GoesOn (use_by (sink_of net) driver)) drivers → Q (suc (length net.gates))
       by [] is there on = absurd (some (no-uses used is))
@@ -164,7 +153,7 @@ uses-by_pins net phases P Q step each =
     let n = network_of net phases in
     let Both = λ (pin : Pin). (at : ℕ) × P (forward_arc at pin) × P (back_arc n at pin) in
     All-weaker (λ one. Both (pin_of net phases one)) Q (λ one h. step h.0 one h.1) (uses_of net)
-    (All-unmapped Both (pin_of net phases) (uses_of net) (All-pins P n 0 n.pins each))
+    (All-unmap Both (pin_of net phases) (uses_of net) (All-pins P n 0 n.pins each))
 
 -- Potentials that fit a flow rise on each pin, since its forward arc is a residual arc.
 pub supplied-rise : PotentialsRise

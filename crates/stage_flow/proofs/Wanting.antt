@@ -9,12 +9,10 @@ use Rattle.flow_net.specs.declared.net.Net.{Net}
 use Rattle.flow_net.specs.declared.net.Flow.{Flow}
 use Rattle.flow_net.specs.Arcs.{Arc, forward_arc, back_arc, arcs_of}
 use Rattle.flow_net.specs.Flows.{units_on, out_minus_in, wants}
-use Rattle.flow_net.proofs.CallerLemmas.{total}
+use Rattle.flow_net.proofs.CallerLemmas.{total, sum-is_total, All-arcs_from}
 use Rattle.stage_flow.specs.Residual.{Way, ways_of, vertex_count}
 use Rattle.stage_flow.specs.Rounds.{is_wanting}
 use Rattle.stage_flow.proofs.Along.{way-on}
-use Rattle.stage_flow.proofs.OutMinusIn.{sum-is_total}
-use Rattle.stage_flow.proofs.LabelBounds.{All-arcs}
 use Rattle.stage_flow.proofs.NetworkEnds.{IsPinLow}
 
 less-by_test : (a b : ℤ) → int_lt a b ≡ true → a <ℤ b
@@ -46,7 +44,7 @@ StartsLow net arc = arc.tail < net.gates + 2
 
 arcs-start_low : (net : Net) → All (IsPinLow net) net.pins → All (StartsLow net) (arcs_of net)
 arcs-start_low net low =
-    All-arcs (StartsLow net) net 0 net.pins
+    All-arcs_from (StartsLow net) net 0 net.pins
     (All-weaker (IsPinLow net) (λ pin. (at : ℕ) → StartsLow net (forward_arc at pin) × StartsLow net (back_arc net at pin)) (λ pin h at. (h.from, h.to)) net.pins low)
 
 at_most : (n : ℕ) (test : Bool) → test ≡ true → n ≤ cond test n 0

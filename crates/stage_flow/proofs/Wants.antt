@@ -1,6 +1,6 @@
 -- What vertices want, where drivers stand, and what it says of units that a mirror wants, or that a vertex has still to send.
 use Rattle.std.proofs.Common.{◌≡◌, ◌<◌, ◌≤◌, ◌+◌, ◌-◌, ◌*◌, ◌==◌, ◌∙◌, ℕ, zero, suc, ℤ, pos, negsuc, ◌+ℤ◌, ◌-ℤ◌, ◌≤ℤ◌, Bool, true, false, cond, ◌&&◌, nat_lt, nat_le, int_lt, refl, sym, ap, arith, ⊎_elim}
-use Rattle.std.proofs.lemmas.Bool.{cases_lt}
+use Rattle.std.proofs.lemmas.Bool.{cases_lt, and_parts}
 use Rattle.std.proofs.lemmas.Bool.Decides.{nat_tests}
 use Rattle.std.proofs.lemmas.Int.{ints}
 use Rattle.flow_net.specs.declared.net.Net.{Net}
@@ -14,15 +14,6 @@ use Rattle.stage_flow.specs.Rounds.{is_wanting, has_to_send}
 -- ---- What vertices want
 pub wants-source : (net : Net) → wants net 0 ≡ pos (net.drivers - net.gates)
 wants-source net = refl
-
-pub wants-gate : (net : Net) (k : ℕ) → k < net.gates → wants net (suc k) ≡ pos 1
-wants-gate net k low = let test : nat_lt k net.gates ≡ true = grind (arith, nat_tests) in rw test refl
-
-pub wants-sink : (net : Net) → wants net (suc net.gates) ≡ pos 0
-wants-sink net =
-    let test : nat_lt net.gates net.gates ≡ false = grind (arith, nat_tests) in
-    let same : (net.gates == net.gates) ≡ true = grind (arith, nat_tests) in
-    rw (test, same) refl
 
 pub wants-mirror : (net : Net) (driver : ℕ) → driver < net.drivers → wants net (mirror_of net driver) ≡ negsuc 0
 wants-mirror net driver low =
@@ -197,18 +188,13 @@ wants-high net vertex high =
     (λ past. omega (arith, ints, wants-past net vertex past))
     (cases_lt vertex (vertex_count net))
 
-both_true : (a b : Bool) → (a && b) ≡ true → (a ≡ true) × (b ≡ true)
-both_true true true h = (refl, refl)
-both_true true false h = absurd (cc)
-both_true false b h = absurd (cc)
-
 below_is : (a b : ℤ) → int_lt a b ≡ true → (a +ℤ pos 1) ≤ℤ b
 below_is a b h = grind (arith, ints)
 
 -- A vertex that has to send is the source or a gate, and has sent less than it is to.
 pub sender-low : (net : Net) (flow : Flow) (vertex : ℕ) → has_to_send net flow vertex ≡ true → (vertex < net.gates + 2) × ((out_minus_in net flow vertex +ℤ pos 1) ≤ℤ wants net vertex)
 sender-low net flow vertex sends =
-    let both = both_true (int_lt (pos 0) (wants net vertex)) (int_lt (out_minus_in net flow vertex) (wants net vertex)) sends in
+    let both = and_parts (int_lt (pos 0) (wants net vertex)) (int_lt (out_minus_in net flow vertex) (wants net vertex)) sends in
     let some = below_is (pos 0) (wants net vertex) both.0 in
     let more = below_is (out_minus_in net flow vertex) (wants net vertex) both.1 in (
       ⊎_elim {C = vertex < net.gates + 2} (λ less. less) (λ past. let none = wants-high net vertex past in absurd (omega (arith, ints, some, none))) (cases_lt vertex (net.gates + 2)),

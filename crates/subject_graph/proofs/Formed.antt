@@ -1,16 +1,16 @@
 -- Graphs as they grow: a node behind its fan-ins keeps a graph formed, and what is behind it changes no value.
-use Rattle.std.proofs.Common.{◌≡◌, ◌<◌, ◌≤◌, ◌+◌, ◌++◌, ◌∙◌, ◌&&◌, ⊎_elim, ℕ, Bool, false, not, List, [], ◌∷◌, length, get_or, take, All, refl, sym, ap, subst, arith, append_assoc, length-append}
+use Rattle.std.proofs.Common.{◌≡◌, ◌<◌, ◌≤◌, ◌+◌, ◌++◌, ◌∙◌, ⊎_elim, ℕ, Bool, false, List, [], ◌∷◌, length, get_or, All, refl, sym, ap, subst, arith, append_assoc, length-append}
 use Rattle.std.proofs.lemmas.Bool.{cases_lt}
 use Rattle.std.proofs.lemmas.List.{append-nil, get_or-take, get_or_append_left, get_or_push, length_push}
 use Rattle.std.proofs.lemmas.List.Elements.{All-weaker}
 use Rattle.net_base.specs.declared.graph.GNode.{GNode}
-use Rattle.net_base.specs.declared.graph.GNode.TheVariants.{Inp, Neg, Both}
+use Rattle.net_base.specs.declared.graph.GNode.TheVariants.{Inp}
 use Rattle.net_base.specs.declared.graph.Ref.{Ref}
 use Rattle.net_base.specs.declared.graph.Ref.TheVariants.{Const, Node}
 use Rattle.net_base.specs.declared.graph.Graph.{Graph}
 use Rattle.net_base.specs.Graph.{IsNodeAt, AreNodes, IsProper, IsRefThere}
 use Rattle.net_base.specs.NodeValues.{value_of, node_values, node_value}
-use Rattle.net_base.proofs.CallerLemmas.{per_item-append, length-per_item, get_or-per_item, take-per_item-append}
+use Rattle.net_base.proofs.CallerLemmas.{per_item-append, length-per_item, get_or-per_item, take-per_item-append, value_of-take}
 use Rattle.subject_graph.specs.Laws.{Keeps, GraphKeepsValues}
 use Rattle.blif_model.specs.declared.design.TheConstants.{MAX_INPUTS}
 use Rattle.subject_graph.specs.Nodes.{node_at, input_graph}
@@ -53,14 +53,6 @@ graph_keeps_values old new row (Node k) keeps there =
     ap (λ ns. get_or (node_values row ns) k false) keeps.nodes
     ∙ sym (get_or-take (length old.nodes) (node_values row (old.nodes ++ keeps.more)) k false there)
     ∙ ap (λ values. get_or values k false) (take-per_item-append (value_of row) old.nodes keeps.more)
-
--- A node reads values before its own alone.
-value_of-take : (row values : List Bool) (inputs place : ℕ) (node : GNode) → IsNodeAt inputs place node → value_of row (take place values) node ≡ value_of row values node
-value_of-take row values inputs place (Inp k) there = refl
-value_of-take row values inputs place (Neg a) there = ap not (get_or-take place values a false there.1)
-value_of-take row values inputs place (Both a b) there =
-    let low : a < place = omega (arith, there.1, there.2) in
-    λ i. get_or-take place values a false low i && get_or-take place values b false there.2 i
 
 -- So it has the value that its fan-ins give it.
 pub value-at : (graph : Graph) (row : List Bool) (k : ℕ) → IsFormed graph → k < length graph.nodes → node_value graph row k ≡ value_of row (node_values row graph.nodes) (node_at graph.nodes k)

@@ -9,7 +9,7 @@ multiples_apart : (n a b : ℕ) → a < b → n * a + n ≤ n * b
 multiples_apart n a b h = grind arith
 
 -- two ticks of one clock that are less than an epoch apart are one tick
-same_tick : (n a b : ℕ) → a % n ≡ b % n → a < b + n → b < a + n → a ≡ b
+pub same_tick : (n a b : ℕ) → a % n ≡ b % n → a < b + n → b < a + n → a ≡ b
 same_tick n a b same above below =
     let qa = div-add-mod a n in
     let qb = div-add-mod b n in

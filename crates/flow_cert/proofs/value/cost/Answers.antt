@@ -1,5 +1,5 @@
 use Rattle.std.proofs.Common.{length, ap, arith}
-use Rattle.flow_cert.proofs.Bounds.{length-chain_lengths}
+use Rattle.flow_net.proofs.CallerLemmas.{length-chain_lengths}
 use Rattle.flow_cert.proofs.value.cost.Goals as goal
 
 pub total-requires : goal.total-requires

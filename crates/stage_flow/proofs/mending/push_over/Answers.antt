@@ -8,8 +8,9 @@ use Rattle.stage_flow.specs.Passes.{mark_at, standing}
 use Rattle.stage_flow.specs.Mending.{offers_of, AreAdded}
 use Rattle.stage_flow.specs.Waiting.{waiting}
 use Rattle.stage_flow.proofs.ProgressNetworks.{vertices-few, ends-among}
-use Rattle.stage_flow.proofs.AddedOffers.{offers_of-closed, ways_on-both, arc_at-number, offered-held}
+use Rattle.stage_flow.proofs.AddedOffers.{offers_of-closed, ways_on-both, offered-held}
 use Rattle.stage_flow.proofs.mending.push_over.Goals as goal
+use Rattle.stage_flow.proofs.SendingArcs.{arc_at-number}
 
 pub step_at-step-requires-clause-few : goal.step_at-step-requires-clause-few
 step_at-step-requires-clause-few c = vertices-few c.args.net.now c.requires.net

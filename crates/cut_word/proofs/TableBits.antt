@@ -1,4 +1,4 @@
--- Tables of eight bits by their bits. `cut_word` has the same facts for its own use.
+-- Tables of eight bits by their bits, and rows of values.
 use Rattle.std.proofs.Common.{◌≡◌, ◌<◌, ◌≤◌, ◌+◌, ◌-◌, ◌*◌, ◌%◌, ◌/◌, ◌^◌, ◌==◌, ◌&&◌, ◌||◌, ◌∙◌, min, max, ℕ, zero, suc, Bool, true, false, not, List, [], ◌∷◌, length, map, slice_index_or, refl, ap, bit_and, bit_or, bit_xor, arith}
 use Rattle.std.specs.Int.{bit_at}
 use Rattle.std.proofs.lemmas.Bool.{agree_below, agree_below_at}
@@ -48,15 +48,15 @@ same_table s t p q bits =
     two_bits (λ x y. (x == 1) ≡ (y == 1) → x ≡ y) (λ e. refl) (λ e. cc) (λ e. cc) (λ e. refl) (bit_at s i) (bit_at t i) (bit_at-lt s i) (bit_at-lt t i) (bits i h))
 
 -- ---- Rows of values
-row_number-cons : (value : Bool) (values : List Bool) → row_number (value ∷ values) / 2 ≡ row_number values
+pub row_number-cons : (value : Bool) (values : List Bool) → row_number (value ∷ values) / 2 ≡ row_number values
 row_number-cons true values = omega arith
 row_number-cons false values = omega arith
 
-is_set-front : (value : Bool) (values : List Bool) → is_set (row_number (value ∷ values)) 0 ≡ value
+pub is_set-front : (value : Bool) (values : List Bool) → is_set (row_number (value ∷ values)) 0 ≡ value
 is_set-front true values = ap (λ n. n == 1) (let e : (1 + 2 * row_number values) / 2 ^ 0 % 2 ≡ 1 = omega arith in e)
 is_set-front false values = ap (λ n. n == 1) (let e : 2 * row_number values / 2 ^ 0 % 2 ≡ 0 = omega arith in e)
 
-is_set-behind : (number place : ℕ) → is_set number (suc place) ≡ is_set (number / 2) place
+pub is_set-behind : (number place : ℕ) → is_set number (suc place) ≡ is_set (number / 2) place
 is_set-behind number place = ap (λ n. n == 1) (bit_at-suc number place)
 
 -- The bits of a row's number are the row.
@@ -67,18 +67,18 @@ is_set-row_number (value ∷ values) zero = is_set-front value values
 is_set-row_number (value ∷ values) (suc place) =
     is_set-behind (row_number (value ∷ values)) place ∙ ap (λ n. is_set n place) (row_number-cons value values) ∙ is_set-row_number values place
 
-row_number-below : (values : List Bool) → row_number values < 2 ^ length values
+pub row_number-below : (values : List Bool) → row_number values < 2 ^ length values
 row_number-below [] = omega arith
 row_number-below (true ∷ values) = let h : row_number values < 2 ^ length values = row_number-below values in omega (arith, pow-succ' 2 (length values))
 row_number-below (false ∷ values) = let h : row_number values < 2 ^ length values = row_number-below values in omega (arith, pow-succ' 2 (length values))
 
 -- Up to three values are a row of a table of eight bits.
-pub row-fits : (values : List Bool) → length values ≤ 3 → row_number values < 8
-row-fits [] few = omega arith
-row-fits (x ∷ []) few = let h : row_number (x ∷ []) < 2 ^ 1 = row_number-below (x ∷ []) in omega arith
-row-fits (x ∷ (y ∷ [])) few = let h : row_number (x ∷ y ∷ []) < 2 ^ 2 = row_number-below (x ∷ y ∷ []) in omega arith
-row-fits (x ∷ (y ∷ (z ∷ []))) few = let h : row_number (x ∷ y ∷ z ∷ []) < 2 ^ 3 = row_number-below (x ∷ y ∷ z ∷ []) in omega arith
-row-fits (x ∷ (y ∷ (z ∷ (u ∷ values)))) few = absurd (omega arith)
+pub row_number-fits : (values : List Bool) → length values ≤ 3 → row_number values < 8
+row_number-fits [] few = omega arith
+row_number-fits (x ∷ []) few = let h : row_number (x ∷ []) < 2 ^ 1 = row_number-below (x ∷ []) in omega arith
+row_number-fits (x ∷ (y ∷ [])) few = let h : row_number (x ∷ y ∷ []) < 2 ^ 2 = row_number-below (x ∷ y ∷ []) in omega arith
+row_number-fits (x ∷ (y ∷ (z ∷ []))) few = let h : row_number (x ∷ y ∷ z ∷ []) < 2 ^ 3 = row_number-below (x ∷ y ∷ z ∷ []) in omega arith
+row_number-fits (x ∷ (y ∷ (z ∷ (u ∷ values)))) few = absurd (omega arith)
 
 eight-bits : (bit : ℕ → Bool) (place : ℕ) → place < 8 → slice_index_or (map bit (0 ∷ 1 ∷ 2 ∷ 3 ∷ 4 ∷ 5 ∷ 6 ∷ 7 ∷ [])) place false ≡ bit place
 eight-bits bit zero h = refl
@@ -99,13 +99,3 @@ table_of-bits bit place h = is_set-row_number (map bit (0 ∷ 1 ∷ 2 ∷ 3 ∷ 
 pub table_of-below : (bit : ℕ → Bool) → table_of bit < 256
 unfolding table_of
 table_of-below bit = row_number-below (map bit (0 ∷ 1 ∷ 2 ∷ 3 ∷ 4 ∷ 5 ∷ 6 ∷ 7 ∷ []))
-
--- The value of a leaf's table is the leaf's: a leaf's table has at each place the leaf's bit of the place.
-pub leaf-one : (place : ℕ) → place < 8 → is_set 0xAA place ≡ is_set place 0
-leaf-one place h = agree_below_at (is_set 0xAA) (λ p. is_set p 0) 8 place refl h
-
-pub leaf-two : (place : ℕ) → place < 8 → is_set 0xCC place ≡ is_set place 1
-leaf-two place h = agree_below_at (is_set 0xCC) (λ p. is_set p 1) 8 place refl h
-
-pub leaf-three : (place : ℕ) → place < 8 → is_set 0xF0 place ≡ is_set place 2
-leaf-three place h = agree_below_at (is_set 0xF0) (λ p. is_set p 2) 8 place refl h
