@@ -2,9 +2,9 @@
 //!
 //! A residual arc is level if its tail's label is just as long as the way over it. As labels fit, the way over it has no fewer arcs
 //! than the label says; how many more is its slack. The search begins at the sender, at a height, and comes down over each level
-//! arc by its slack, highest vertices first, through marked vertices. It ends at the first one that isn't marked, and that
-//! vertex' height is the floor: a vertex above it may be raised by its height above the floor. Nothing is promised of the floor:
-//! `raising` tests what comes of it. Promised is only that each vertex that the search came to is listed.
+//! arc by its slack, highest vertices first, through marked vertices. The floor is the height of the highest vertex met that isn't
+//! marked, and the search ends when no other waits above it: a vertex above the floor may be raised by its height above it. Nothing
+//! is promised of the floor: `raising` tests what comes of it. Promised is only that each vertex that the search came to is listed.
 //!
 //! Source: Dijkstra's search with a list for each distance (Dial 1969), here for heights, which are few.
 
@@ -35,6 +35,8 @@ pub(crate) struct Room {
     pub(crate) heights: Vec<u32>,
     /// The vertices that it came to, each once.
     pub(crate) reached: Vec<u32>,
+    /// The height of the highest vertex met so far that isn't marked, 0 before one is.
+    pub(crate) floor: u32,
     // Those that wait, in a list for each height.
     waiting: Vec<Vec<u32>>,
 }
@@ -117,14 +119,10 @@ pub(crate) fn is_level(labels: &Labels, step: Step) -> bool
     step.length.checked_add(next_far) == Some(far)
 }
 
-// How many arcs of slack a level residual arc has, or as many as can be where it isn't level.
+// How many arcs of slack a level residual arc has.
 fn slack(labels: &Labels, step: Step) -> u32
-    requires far { (step.tail < length labels.now.far) × (step.head < length labels.now.far) }
-    requires hops { (step.tail < length labels.now.hops) × (step.head < length labels.now.hops) }
+    requires { (step.tail < length labels.now.hops) × (step.head < length labels.now.hops) }
 {
-    if !is_level(labels, step) {
-        return u32::MAX;
-    }
     let hops = *labels.hops.get(step.tail as usize);
     let next_hops = *labels.hops.get(step.head as usize);
     next_hops.saturating_add(1).saturating_sub(hops)
@@ -133,6 +131,7 @@ fn slack(labels: &Labels, step: Step) -> u32
 // Comes down over a residual arc, if it leaves a vertex, from that vertex' height.
 fn come_by(
     labels: &Labels,
+    marks: &[bool],
     vertex: u32,
     height: u32,
     step: Step,
@@ -149,6 +148,17 @@ fn come_by(
         return Ok(());
     }
     let height = height.saturating_sub(slack(labels, step));
+    // Of most heads it is known that they stand as high. There lengths, which lie far apart, needn't be read.
+    if height <= room.floor || room.heights[step.head as usize] >= height {
+        return Ok(());
+    }
+    if !is_level(labels, step) {
+        return Ok(());
+    }
+    if !is_marked(marks, step.head) {
+        room.floor = height;
+        return Ok(());
+    }
     let heights = room.heights.as_mut_slice();
     if come_to(heights, &mut room.reached, step.head, height)? {
         wait_at(&mut room.waiting, height, step.head)?;
@@ -161,6 +171,7 @@ fn come_over(
     net: &Net,
     flow: &Flow,
     labels: &Labels,
+    marks: &[bool],
     vertex: u32,
     height: u32,
     number: u32,
@@ -176,10 +187,17 @@ fn come_over(
     let step = step_at(net, number, false);
     // Where the arc itself leaves the vertex, its reverse enters it, and units needn't be read.
     if step.tail == vertex {
-        return come_by(labels, vertex, height, step, room);
+        return come_by(labels, marks, vertex, height, step, room);
     }
     if units_at(flow, number) > 0 {
-        come_by(labels, vertex, height, step_at(net, number, true), room)?;
+        come_by(
+            labels,
+            marks,
+            vertex,
+            height,
+            step_at(net, number, true),
+            room,
+        )?;
     }
     Ok(())
 }
@@ -189,6 +207,7 @@ fn come_from(
     net: &Net,
     flow: &Flow,
     labels: &Labels,
+    marks: &[bool],
     vertex: u32,
     height: u32,
     numbers: &[u32],
@@ -202,7 +221,7 @@ fn come_from(
     ensures tracked { OnOk result (AreTracked room.new.heights.items room.new.reached.items) }
 {
     for number in numbers {
-        come_over(net, flow, labels, vertex, height, *number, room)?;
+        come_over(net, flow, labels, marks, vertex, height, *number, room)?;
     }
     Ok(())
 }
@@ -223,12 +242,13 @@ impl Room {
         Ok(Room {
             heights: vec![in alloc; 0; vertices(net)]?,
             reached: Vec::new(alloc),
+            floor: 0,
             waiting: lists_for_heights(alloc)?,
         })
     }
 }
 
-/// Searches from a vertex until it comes to one that isn't marked. The answer is the floor.
+/// Searches from a vertex until none waits above the floor, which is the answer.
 pub(crate) fn search(
     net: &Net,
     incidence: &Incidence,
@@ -247,6 +267,7 @@ pub(crate) fn search(
 {
     clear_all(&mut room.waiting);
     room.reached.clear();
+    room.floor = 0;
     come_to(room.heights.as_mut_slice(), &mut room.reached, from, TOP)?;
     wait_at(&mut room.waiting, TOP, from)?;
     let mut height = TOP;
@@ -255,15 +276,16 @@ pub(crate) fn search(
         let Some(vertex) = pop_highest(&mut room.waiting, &mut height) else {
             break;
         };
+        if height <= room.floor {
+            break;
+        }
         // A vertex to which it came higher later on waits in vain.
         if stands_at(room.heights.as_slice(), vertex, height) {
-            if !is_marked(marks, vertex) {
-                return Ok(height);
-            }
             come_from(
                 net,
                 flow,
                 labels,
+                marks,
                 vertex,
                 height,
                 incidence.at(vertex),
@@ -271,5 +293,9 @@ pub(crate) fn search(
             )?;
         }
     }
-    Ok(ABOVE_ALL)
+    Ok(if room.floor > 0 {
+        room.floor
+    } else {
+        ABOVE_ALL
+    })
 }

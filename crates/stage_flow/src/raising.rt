@@ -39,12 +39,13 @@ fn stays_fitting(labels: &Labels, heights: &[u32], floor: u32, vertex: u32, step
     if step.tail != vertex {
         return true;
     }
-    // An arc that isn't level fits whatever the numbers of arcs are.
-    if !is_level(labels, step) {
+    let hops = labels.hops.as_slice();
+    // Counts of arcs lie closer together than lengths, and tell most arcs that fit.
+    if raised(hops, heights, floor, step.tail) <= raised(hops, heights, floor, step.head) + 1 {
         return true;
     }
-    let hops = labels.hops.as_slice();
-    raised(hops, heights, floor, step.tail) <= raised(hops, heights, floor, step.head) + 1
+    // An arc that isn't level fits whatever the numbers of arcs are.
+    !is_level(labels, step)
 }
 
 // Whether the residual arcs on an arc do.
