@@ -12,17 +12,17 @@ use Rattle.flow_net.specs.declared.net.Flow.{Flow}
 use Rattle.stage_flow.specs.declared.offers.Offer.{Offer}
 use Rattle.stage_flow.specs.Residual.{Way, ways_of, vertex_count}
 use Rattle.stage_flow.specs.Longest.{Reach}
-use Rattle.stage_flow.specs.Given.{IsNetwork, at_vertex, count_at, numbers_at}
+use Rattle.stage_flow.specs.Given.{IsNetwork, at_vertex, count_at}
 use Rattle.stage_flow.specs.LawsOfWalks.{label, AreLabels, FitsWay, potential_by}
 use Rattle.stage_flow.specs.LawsOfSending.{IsPartFlow, SomeMirrorWants}
-use Rattle.stage_flow.specs.Sending.{ways_by}
+use Rattle.stage_flow.specs.Sending.{ways_near}
 use Rattle.stage_flow.specs.Passes.{mark_at, reach_by, standing}
 use Rattle.stage_flow.specs.Mending.{AreRightOutside, AreMarked, is_open, offer_by, offers_of, AreAdded, IsFirst}
 use Rattle.stage_flow.proofs.Labels.{IsLow}
 use Rattle.stage_flow.proofs.Round.{ways-low, fits-labelled}
 use Rattle.stage_flow.proofs.LabelsExist.{labels-exist}
 use Rattle.stage_flow.proofs.ProgressNetworks.{vertices-few, ends-among}
-use Rattle.stage_flow.proofs.SendingSearch.{ways_near, ways_by-near, near-from, near-to}
+use Rattle.stage_flow.proofs.SendingSearch.{near-from, near-to}
 use Rattle.stage_flow.proofs.OldLabels.{old-right}
 use Rattle.stage_flow.proofs.OpenArcs.{open-tail, open-head, offer_by-same, IsMadeBy, made-from, made-to, All-flat_map, Contains-flat_map}
 use Rattle.stage_flow.proofs.Halfway.{IsMade, IsHalfway, marked-low, first-right}
@@ -30,20 +30,18 @@ use Rattle.stage_flow.proofs.Halfway.{IsMade, IsHalfway, marked-low, first-right
 -- ---- Offers by the arcs at a vertex
 module _ (net : Net) (flow : Flow) (old right standing' : ℕ → Reach) (stale : List Bool)
     (offered : (way : Way) → Contains (ways_of net flow) way → is_open stale way ≡ true → offer_by standing' standing' way ≡ offer_by old right way) (vertex : ℕ) where
-  near-made : All (IsMade net flow old right) (offers_of standing' stale (ways_by net flow (numbers_at net vertex)))
+  near-made : All (IsMade net flow old right) (offers_of standing' stale (ways_near net flow vertex))
   near-made =
-      subst (λ (ways : List Way). All (IsMade net flow old right) (offers_of standing' stale ways)) (sym (ways_by-near net flow vertex))
-      (All-weaker (IsMadeBy standing' stale (ways_near net flow vertex)) (IsMade net flow old right)
+      All-weaker (IsMadeBy standing' stale (ways_near net flow vertex)) (IsMade net flow old right)
       (λ offer made.
       let there = near-from net flow vertex made.way made.there in
       record { way = made.way; there = there; is = made.is ∙ offered made.way there made.is_open })
-      (offers_of standing' stale (ways_near net flow vertex)) (made-from standing' stale (ways_near net flow vertex)))
+      (offers_of standing' stale (ways_near net flow vertex)) (made-from standing' stale (ways_near net flow vertex))
 
-  near-all : (way : Way) → Contains (ways_of net flow) way → is_open stale way ≡ true → (way.tail ≡ vertex) ⊎ (way.head ≡ vertex) → Contains (offers_of standing' stale (ways_by net flow (numbers_at net vertex))) (offer_by old right way)
+  near-all : (way : Way) → Contains (ways_of net flow) way → is_open stale way ≡ true → (way.tail ≡ vertex) ⊎ (way.head ≡ vertex) → Contains (offers_of standing' stale (ways_near net flow vertex)) (offer_by old right way)
   near-all way there is at =
-      subst (λ (ways : List Way). Contains (offers_of standing' stale ways) (offer_by old right way)) (sym (ways_by-near net flow vertex))
-      (subst (Contains (offers_of standing' stale (ways_near net flow vertex))) (offered way there is)
-      (made-to standing' stale (ways_near net flow vertex) way (near-to net flow vertex way there at) is))
+      subst (Contains (offers_of standing' stale (ways_near net flow vertex))) (offered way there is)
+      (made-to standing' stale (ways_near net flow vertex) way (near-to net flow vertex way there at) is)
 
 -- ---- The start
 module _ (net : Net) (flow : Flow) (is : IsNetwork net) (far : List ℤ) (hops : List ℕ) (stale : List Bool) (vertices : List ℕ) (right : AreRightOutside net flow (at_vertex far) (count_at hops) stale) (marked : AreMarked net stale vertices)
@@ -61,9 +59,9 @@ module _ (net : Net) (flow : Flow) (is : IsNetwork net) (far : List ℤ) (hops :
 
   -- the offers of the residual arcs at one vertex
   abbrev offers_near : ℕ → List Offer
-  offers_near vertex = offers_of (standing far hops) stale (ways_by net flow (numbers_at net vertex))
+  offers_near vertex = offers_of (standing far hops) stale (ways_near net flow vertex)
 
-  pub halfway-first : (offers : List Offer) → length far ≡ vertex_count net → length hops ≡ vertex_count net → length stale ≡ vertex_count net → AreAdded (flat_map (λ vertex. offers_of (standing far hops) stale (ways_by net flow (numbers_at net vertex))) vertices) [] offers → IsHalfway net flow (label (at_vertex far) (count_at hops)) far hops stale offers
+  pub halfway-first : (offers : List Offer) → length far ≡ vertex_count net → length hops ≡ vertex_count net → length stale ≡ vertex_count net → AreAdded (flat_map (λ vertex. offers_of (standing far hops) stale (ways_near net flow vertex)) vertices) [] offers → IsHalfway net flow (label (at_vertex far) (count_at hops)) far hops stale offers
   halfway-first offers each_far each_hops each_mark moved =
       let old = standing far hops in
       let best = label lengths counts in record {
@@ -141,7 +139,7 @@ module _ (net : Net) (flow : Flow) (is : IsNetwork net) (old_far : ℕ → ℤ) 
 
   -- the offers of the residual arcs at the vertex
   abbrev new_offers : List Offer
-  new_offers = offers_of (standing far' hops') stale' (ways_by net flow (numbers_at net first.vertex))
+  new_offers = offers_of (standing far' hops') stale' (ways_near net flow first.vertex)
 
   -- An offer that was there is still, if its vertex is still stale.
   still-there : (way : Way) → Contains (ways_of net flow) way → is_open stale' way ≡ true → way.head ≢ first.vertex → Contains rest (offer_by (label old_far old_hops) (label was.lengths was.counts) way)
@@ -155,7 +153,7 @@ module _ (net : Net) (flow : Flow) (is : IsNetwork net) (old_far : ℕ → ℤ) 
       (λ left. left)
       (All-contains (λ (o : Offer). mark_at stale o.vertex ≡ true → (o ≡ first) ⊎ Contains rest o) offers offer top.left (was.all way there was_open) tail)
 
-  pub halfway-next : (offers' : List Offer) → AreAdded (offers_of (standing far' hops') stale' (ways_by net flow (numbers_at net first.vertex))) rest offers' → IsHalfway net flow (label old_far old_hops) far' hops' stale' offers'
+  pub halfway-next : (offers' : List Offer) → AreAdded (offers_of (standing far' hops') stale' (ways_near net flow first.vertex)) rest offers' → IsHalfway net flow (label old_far old_hops) far' hops' stale' offers'
   halfway-next offers' moved =
       let old = label old_far old_hops in
       let right = label was.lengths was.counts in record {

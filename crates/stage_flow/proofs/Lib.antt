@@ -46,14 +46,17 @@ mod SinkEpochs
 mod RoundEpochs
 mod SourceTarget
 mod SendingArcs
+mod NearArcs
 mod SendingSearch
 mod StaleVertices
 mod RoundLeft
 mod SendingPath
+mod ReachedVertices
 mod SendingUnits
 mod SendingExamples
 mod IncidenceLists
 mod IncidenceRows
+mod NearRows
 mod ProgressNetworks
 mod ProgressSender
 mod ProgressUnits

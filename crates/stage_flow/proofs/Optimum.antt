@@ -2,7 +2,7 @@
 -- as they cost; so by weak duality no balanced epochs cost less. The mirror of a driver has a potential that no pin's need passes, so
 -- the driver's chain ends below it; where a back arc carries units the chain ends just there, since the arc is tight. So on each arc
 -- with units the epochs, with chains behind them, rise by the arc's length, and the flow is worth what it gains: the DRO count.
-use Rattle.std.proofs.Common.{◌≡◌, ◌≤◌, ◌<◌, ◌+◌, ◌-◌, ◌==◌, inl, inr, ℕ, ℤ, pos, ◌+ℤ◌, ◌-ℤ◌, ◌≤ℤ◌, Bool, true, false, cond, max, List, [], ◌∷◌, get_or, All, refl, ap, arith, ⊎_elim}
+use Rattle.std.proofs.Common.{◌≡◌, ◌≤◌, ◌<◌, ◌+◌, ◌==◌, inl, inr, ℕ, ℤ, pos, ◌+ℤ◌, ◌-ℤ◌, ◌≤ℤ◌, Bool, true, false, cond, max, List, [], ◌∷◌, get_or, All, refl, ap, arith, ⊎_elim}
 use Rattle.std.proofs.lemmas.Bool.Decides.{nat_tests}
 use Rattle.std.proofs.lemmas.Int.{ints}
 use Rattle.std.proofs.lemmas.List.Elements.{All-head, All-tail, All-weaker}

@@ -1,20 +1,18 @@
 -- Labels of marked vertices that are raised. A vertex is raised only where it is marked and the residual arcs out of it still fit. An arc
 -- out of any other vertex fits as before, since its head's label has no fewer arcs; and where it is tight, the head was not raised, since
 -- the arc didn't fit otherwise. So nothing changes at unmarked vertices, and marked ones stay dead unless they were raised.
-use Rattle.std.proofs.Common.{◌≡◌, ◌<◌, ◌≤◌, ◌+◌, ◌-◌, ◌^◌, ◌+ℤ◌, ◌==◌, ◌∙◌, ◌⊎◌, inl, inr, ℕ, ℤ, Bool, true, false, cond, List, [], ◌∷◌, length, get_or, set, take, drop, All, Contains, refl, ap, sym, subst, arith, true≢false, ⊎_elim}
-use Rattle.std.proofs.lemmas.Bool.{cases_eq, cases_lt, eqb-false}
+use Rattle.std.proofs.Common.{◌≡◌, ◌<◌, ◌≤◌, ◌+◌, ◌-◌, ◌^◌, ◌+ℤ◌, ◌∙◌, ◌⊎◌, inl, inr, ℕ, ℤ, Bool, true, false, List, length, get_or, set, drop, All, Contains, refl, ap, sym, subst, arith, true≢false, ⊎_elim}
+use Rattle.std.proofs.lemmas.Bool.{cases_eq, cases_lt}
 use Rattle.std.proofs.lemmas.Int.{ints}
-use Rattle.std.proofs.lemmas.List.{flat_map_more, take_more, drop_more, drop_all, get_or_past, get_or-set_same, get_or-set_other}
-use Rattle.std.proofs.lemmas.List.Elements.{All-append, All-nil, All-cons, All-contains, All-weaker, All-contains_itself}
+use Rattle.std.proofs.lemmas.List.{drop_more, drop_all, get_or_past, get_or-set_same, get_or-set_other}
+use Rattle.std.proofs.lemmas.List.Elements.{All-contains, All-weaker, All-contains_itself}
 use Rattle.flow_net.specs.declared.net.Net.{Net}
 use Rattle.flow_net.specs.declared.net.Flow.{Flow}
-use Rattle.flow_net.specs.Arcs.{Arc}
-use Rattle.flow_net.specs.Flows.{units_on}
-use Rattle.stage_flow.specs.Residual.{Way, adding, taking, ways_on, ways_of, vertex_count}
+use Rattle.stage_flow.specs.Residual.{Way, ways_of, vertex_count}
 use Rattle.stage_flow.specs.Longest.{Reach}
-use Rattle.stage_flow.specs.Given.{IsNetwork, count_at, numbers_at}
+use Rattle.stage_flow.specs.Given.{IsNetwork, count_at}
 use Rattle.stage_flow.specs.LawsOfWalks.{led_by, label, IsFitting, IsTight}
-use Rattle.stage_flow.specs.Sending.{arc_at, ways_by, AreRead}
+use Rattle.stage_flow.specs.Sending.{ways_near, AreRead}
 use Rattle.stage_flow.specs.Passes.{mark_at}
 use Rattle.stage_flow.specs.Mending.{IsSound, AreRightOutside}
 use Rattle.stage_flow.specs.Staleness.{AreNear, AreKept}
@@ -22,7 +20,7 @@ use Rattle.stage_flow.specs.Raising.{lifted, AreTracked, StaysFitting, MayRise, 
 use Rattle.stage_flow.proofs.Walks.{no_better-test, test-no_better}
 use Rattle.stage_flow.proofs.Labels.{IsLow, tight-nearer}
 use Rattle.stage_flow.proofs.ProgressNetworks.{vertices-few, ends-among}
-use Rattle.stage_flow.proofs.SendingSearch.{ways_near, ways_by-near, near-to}
+use Rattle.stage_flow.proofs.SendingSearch.{near-to}
 use Rattle.stage_flow.proofs.AheadVertices.{head-or-rest}
 
 -- ---- Arcs that fit
@@ -36,31 +34,13 @@ pub level-no_fewer : (far : ℕ → ℤ) (hops : ℕ → ℕ) (way : Way) → Is
 level-no_fewer far hops way fits = (no_better-test (led_by way (label far hops way.head)) (label far hops way.tail) fits).no_fewer
 
 -- ---- Arcs at a vertex
--- What holds of the residual arcs on an arc,
-pub all-on : (P : Way → Type 0) (flow : Flow) (arc : Arc) → P (adding arc) → (0 < units_on flow arc → P (taking arc)) → All P (ways_on flow arc)
-all-on P flow arc adds takes = by (units_on flow arc == 0) refl
-  where
-    by : (b : Bool) → (units_on flow arc == 0) ≡ b → All P (adding arc ∷ cond b [] (taking arc ∷ []))
-    by true empty = All-cons P (adding arc) [] adds (All-nil P)
-    by false some =
-        let units = eqb-false (units_on flow arc) 0 some in
-        let more : 0 < units_on flow arc = ⊎_elim {C = 0 < units_on flow arc} (λ same. absurd (units same)) (λ other. omega (arith, other)) (cases_eq (units_on flow arc) 0) in
-        All-cons P (adding arc) (taking arc ∷ []) adds (All-cons P (taking arc) [] (takes more) (All-nil P))
-
--- and of those on one arc more.
-pub all-more : (P : Way → Type 0) (net : Net) (flow : Flow) (numbers : List ℕ) (i : ℕ) → i < length numbers → All P (ways_by net flow (take i numbers)) → All P (ways_on flow (arc_at net (get_or numbers i 0))) → All P (ways_by net flow (take (i + 1) numbers))
-all-more P net flow numbers i within before here =
-    let own = get_or numbers i 0 in
-    subst (λ ns. All P (ways_by net flow ns)) (sym (take_more numbers i 0 within))
-    (subst (All P) (flat_map_more (λ n. ways_on flow (arc_at net n)) [] (take i numbers) own) (All-append P (ways_by net flow (take i numbers)) (ways_on flow (arc_at net own)) before here))
-
 -- Where the residual arcs out of a vertex stay fitting by the arcs near it, all do.
-pub near-fits : (net : Net) (flow : Flow) (far : ℕ → ℤ) (hops : ℕ → ℕ) (heights : List ℕ) (floor vertex : ℕ) (numbers : List ℕ) → numbers ≡ numbers_at net vertex → All (StaysFitting far hops heights floor vertex) (ways_by net flow numbers) → All (StaysFitting far hops heights floor vertex) (ways_of net flow)
-near-fits net flow far hops heights floor vertex numbers is all =
+pub near-fits : (net : Net) (flow : Flow) (far : ℕ → ℤ) (hops : ℕ → ℕ) (heights : List ℕ) (floor vertex : ℕ) (ways : List Way) → ways ≡ ways_near net flow vertex → All (StaysFitting far hops heights floor vertex) ways → All (StaysFitting far hops heights floor vertex) (ways_of net flow)
+near-fits net flow far hops heights floor vertex ways is all =
     All-weaker (Contains (ways_of net flow)) (StaysFitting far hops heights floor vertex)
     (λ way there begins.
     All-contains (StaysFitting far hops heights floor vertex) (ways_near net flow vertex) way
-    (subst (All (StaysFitting far hops heights floor vertex)) (ap (ways_by net flow) is ∙ ways_by-near net flow vertex) all) (near-to net flow vertex way there (inl begins)) begins)
+    (subst (All (StaysFitting far hops heights floor vertex)) is all) (near-to net flow vertex way there (inl begins)) begins)
     (ways_of net flow) (All-contains_itself (ways_of net flow))
 
 -- A vertex that the search didn't come to isn't raised.

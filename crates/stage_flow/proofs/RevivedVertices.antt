@@ -15,7 +15,8 @@ use Rattle.stage_flow.specs.Mending.{IsSound, AreRightOutside}
 use Rattle.stage_flow.specs.Staleness.{LeadsAway, NoneLeadsAway, tails_of, AreDead}
 use Rattle.stage_flow.specs.Raising.{IsDead, AreDeadBut}
 use Rattle.stage_flow.proofs.HalfwaySteps.{marked-before}
-use Rattle.stage_flow.proofs.SendingSearch.{ways_near, near-to}
+use Rattle.stage_flow.specs.Sending.{ways_near}
+use Rattle.stage_flow.proofs.SendingSearch.{near-to}
 use Rattle.stage_flow.proofs.StaleVertices.{tail-among, tails-low}
 
 -- A vertex from which nothing leads away is dead, and so is one that isn't marked.

@@ -8,7 +8,7 @@ use Rattle.flow_net.specs.Arcs.{Arc, mirror_of, arcs_from, arcs_of}
 use Rattle.stage_flow.specs.Residual.{Way, vertex_count}
 use Rattle.stage_flow.specs.Longest.{Reach}
 use Rattle.stage_flow.specs.LawsOfWalks.{EndsAreVertices, led_by, label, IsTight}
-use Rattle.stage_flow.specs.Sending.{arc_by, pin_at, arc_at}
+use Rattle.stage_flow.specs.Search.{arc_by, pin_at, arc_at}
 use Rattle.stage_flow.proofs.Walks.{reach-same}
 use Rattle.stage_flow.proofs.Units.{length-arcs_from, arc-same, arc-low}
 

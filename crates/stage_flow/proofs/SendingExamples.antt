@@ -1,13 +1,15 @@
 -- How a round is read off labels, on a network made by hand with two inputs and two gates: what tight arcs reach from the source, and
 -- the way back.
-use Rattle.std.proofs.Common.{◌≡◌, refl, ℕ, ℤ, pos, negsuc, false, [], ◌∷◌, map, Some, None}
+use Rattle.std.proofs.Common.{◌≡◌, refl, ℕ, ℤ, pos, negsuc, false, List, [], ◌∷◌, map, Some, None}
 use Rattle.flow_net.specs.declared.net.Net.{Net}
 use Rattle.flow_net.specs.declared.net.Flow.{Flow}
 use Rattle.flow_net.specs.Arcs.{arcs_of}
 use Rattle.stage_flow.specs.Residual.{Way}
 use Rattle.stage_flow.specs.Rounds.{no_units, path_of}
-use Rattle.stage_flow.specs.Given.{at_vertex, count_at, numbers_at}
-use Rattle.stage_flow.specs.Sending.{arc_at, ways_by, heads_of, comes_last, least_by}
+use Rattle.stage_flow.specs.declared.ways.Near.{Near}
+use Rattle.stage_flow.specs.Given.{at_vertex, count_at, arcs_at, near_arc}
+use Rattle.stage_flow.specs.Search.{arc_at, numbers_at, near_of}
+use Rattle.stage_flow.specs.Sending.{ways_by, heads_of, comes_last, least_by}
 
 abbrev net : Net
 net = record {
@@ -40,19 +42,30 @@ arcs-by_number = refl
 numbers-second : numbers_at net 2 ≡ 2 ∷ 3 ∷ 4 ∷ 5 ∷ 6 ∷ []
 numbers-second = refl
 
+-- its row has the other end of each, and the number doubled with the weight
+abbrev row : ℕ → List Near
+row vertex = map (near_of net vertex) (numbers_at net vertex)
+
+row-second : row 2 ≡ record { other = 0; code = 5 } ∷ record { other = 4; code = 7 } ∷ record { other = 1; code = 9 } ∷ record { other = 6; code = 11 } ∷ record { other = 3; code = 13 } ∷ []
+row-second = refl
+
+-- and stands for the arcs
+arcs-second : map (near_arc 2) (row 2) ≡ arcs_at net 2
+arcs-second = refl
+
 -- at the sink both arcs carry the unit, so each may give it back
-ways-sink : map (λ (way : Way). way.tail) (ways_by net one_sent (6 ∷ 7 ∷ [])) ≡ 2 ∷ 3 ∷ 3 ∷ 7 ∷ []
+ways-sink : map (λ (way : Way). way.tail) (ways_by 3 one_sent (row 3)) ≡ 2 ∷ 3 ∷ 3 ∷ 7 ∷ []
 ways-sink = refl
 
 -- tight arcs lead from the source to the first gate alone, and on to the second, the sink and its mirror
-heads-source : heads_of far hops [] 0 (ways_by net (no_units net) (numbers_at net 0)) ≡ 1 ∷ []
+heads-source : heads_of far hops [] 0 (ways_by 0 (no_units net) (row 0)) ≡ 1 ∷ []
 heads-source = refl
 
-heads-second : heads_of far hops [] 2 (ways_by net (no_units net) (numbers_at net 2)) ≡ 3 ∷ []
+heads-second : heads_of far hops [] 2 (ways_by 2 (no_units net) (row 2)) ≡ 3 ∷ []
 heads-second = refl
 
 -- so to the second gate the path comes from the first
-last-second : least_by (comes_last far hops (0 ∷ 1 ∷ 2 ∷ 3 ∷ 7 ∷ []) 2) None (ways_by net (no_units net) (numbers_at net 2)) ≡ Some (record { tail = 1; head = 2; length = pos 1; number = 4; takes = false })
+last-second : least_by (comes_last far hops (0 ∷ 1 ∷ 2 ∷ 3 ∷ 7 ∷ []) 2) None (ways_by 2 (no_units net) (row 2)) ≡ Some (record { tail = 1; head = 2; length = pos 1; number = 4; takes = false })
 last-second = refl
 
 -- The path by the definition of the rounds is the same.

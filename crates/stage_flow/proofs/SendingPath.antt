@@ -1,7 +1,8 @@
 -- The path is read backwards. What may come last on a longest walk to a vertex that was reached is just what is tight, enters it and
 -- comes from what was reached; and it stands among the residual arcs at the vertex. So the least of these is the last one.
-use Rattle.std.proofs.Common.{◌≡◌, ◌<◌, ◌≤◌, ◌+◌, ◌-◌, ◌^◌, ◌==◌, ◌∙◌, ◌++◌, ◌⊎◌, ◌&&◌, inl, inr, ℕ, suc, ℤ, nat_eq, Bool, true, false, cond, List, [], ◌∷◌, length, get_or, filter, take, reverse, All, Contains, Option, Some, None, refl, ap, sym, subst, arith, true≢false, ⊎_elim, append_assoc}
+use Rattle.std.proofs.Common.{◌≡◌, ◌≢◌, drop, ◌<◌, ◌≤◌, ◌+◌, ◌-◌, ◌^◌, ◌==◌, ◌∙◌, ◌++◌, ◌⊎◌, ◌&&◌, inl, inr, ℕ, suc, ℤ, nat_eq, Bool, true, false, cond, List, [], ◌∷◌, length, get_or, filter, take, reverse, All, Contains, Option, Some, None, refl, ap, sym, subst, arith, true≢false, ⊎_elim, append_assoc}
 use Rattle.std.specs.List.{flat_map}
+use Rattle.std.proofs.Math.Seq.{drop-cons}
 use Rattle.std.proofs.lemmas.Bool.{eqb-true, eq-eqb, or_left, or_right, and_parts, and_from}
 use Rattle.std.proofs.lemmas.List.Elements.{All-nil, All-cons, All-head, All-tail, All-contains, All-weaker, All-more, All-contains_itself, Contains-get_or}
 use Rattle.std.proofs.lemmas.List.{reverse-append, append-nil}
@@ -13,20 +14,22 @@ use Rattle.flow_net.specs.declared.net.Net.{Net}
 use Rattle.flow_net.specs.declared.net.Flow.{Flow}
 use Rattle.flow_net.specs.Arcs.{Arc, arcs_of}
 use Rattle.flow_net.specs.Flows.{units_on}
+use Rattle.stage_flow.specs.declared.ways.Near.{Near}
 use Rattle.stage_flow.specs.Residual.{Way, adding, taking, ways_on, ways_of, vertex_count}
 use Rattle.stage_flow.specs.Longest.{Reach}
 use Rattle.stage_flow.specs.Rounds.{best_to, is_wanting, is_last, or_lesser, least_last, last_of, last_way, path_to, path_of, path_from}
-use Rattle.stage_flow.specs.LawsOfWalks.{IsInLayer, EndsAreVertices, AreLabelsFor}
-use Rattle.stage_flow.specs.Given.{touches, count_at}
+use Rattle.stage_flow.specs.LawsOfWalks.{IsTight, IsInLayer, EndsAreVertices, AreLabelsFor}
+use Rattle.stage_flow.specs.Given.{touches, count_at, near_arc}
 use Rattle.stage_flow.specs.Passes.{mark_at}
-use Rattle.stage_flow.specs.Sending.{is_tight, comes_last, least_by, AreReached}
+use Rattle.stage_flow.specs.Sending.{way_in, ways_by, ways_near, is_residual, is_tight, comes_last, least_by, AreReached}
 use Rattle.stage_flow.specs.Staleness.{AreKept}
 use Rattle.stage_flow.proofs.Labels.{IsLow, tight-nearer, tight_walk-nearer}
 use Rattle.stage_flow.proofs.FreshLabels.{fresh-labels_for, fresh-wanting}
 use Rattle.stage_flow.proofs.Receiver.{layer_reach, best_to-in_layer, receiver-is}
 use Rattle.stage_flow.proofs.Path.{last-is, last-from, last_way-is, path_to-next}
 use Rattle.stage_flow.proofs.Round.{ways-low}
-use Rattle.stage_flow.proofs.SendingSearch.{ways_near, tight-test, test-tight, tail-fresh}
+use Rattle.stage_flow.proofs.NearArcs.{only_if, in-alone, in-ends}
+use Rattle.stage_flow.proofs.SendingSearch.{tight-test, test-tight, tail-fresh}
 
 -- ---- The least by a test
 least_by-append : (test : Way → Bool) (found : Option Way) (a b : List Way) → least_by test found (a ++ b) ≡ least_by test (least_by test found a) b
@@ -44,6 +47,62 @@ least_by-none test found [] none = refl
 least_by-none test found (way ∷ ways) none =
     ap (λ b. least_by test (or_lesser b way found) ways) (All-head (λ w. test w ≡ false) way ways none)
     ∙ least_by-none test found ways (All-tail (λ w. test w ≡ false) way ways none)
+
+-- What fails the test doesn't matter.
+least_by-filter : (test : Way → Bool) (found : Option Way) (ways : List Way) → least_by test found ways ≡ least_by (λ way. true) found (filter test ways)
+least_by-filter test found [] = refl
+least_by-filter test found (way ∷ ways) = by (test way) (least_by-filter test (or_lesser (test way) way found) ways)
+  where
+    by : (b : Bool) → least_by test (or_lesser b way found) ways ≡ least_by (λ way. true) (or_lesser b way found) (filter test ways) → least_by test (or_lesser b way found) ways ≡ least_by (λ way. true) found (cond b (way ∷ filter test ways) (filter test ways))
+    by true rest = rest
+    by false rest = rest
+
+-- Of the residual arcs on an arc at a vertex only the one that enters it may be found.
+least-in : (flow : Flow) (far : ℕ → ℤ) (hops : ℕ → ℕ) (reached : List ℕ) (vertex : ℕ) (near : Near) (found : Option Way) → near.other ≢ vertex
+    → least_by (comes_last far hops reached vertex) found (ways_on flow (near_arc vertex near)) ≡ least_by (λ way. true) found (filter (comes_last far hops reached vertex) (only_if (is_residual flow (way_in vertex near)) (way_in vertex near)))
+least-in flow far hops reached vertex near found apart =
+    least_by-filter (comes_last far hops reached vertex) found (ways_on flow (near_arc vertex near))
+    ∙ ap (least_by (λ way. true) found)
+    (in-alone (comes_last far hops reached vertex) flow vertex near apart (λ way passes. eqb-true way.head vertex (and_parts (way.head == vertex) (is_tight far hops way && is_among nat_eq way.tail reached) passes).0))
+
+pub least-none : (flow : Flow) (far : ℕ → ℤ) (hops : ℕ → ℕ) (reached : List ℕ) (vertex : ℕ) (near : Near) (found : Option Way) → near.other ≢ vertex
+    → (is_residual flow (way_in vertex near) ≡ true → IsTight far hops (way_in vertex near) → is_among nat_eq (way_in vertex near).tail reached ≡ true → ⊥)
+    → least_by (comes_last far hops reached vertex) found (ways_on flow (near_arc vertex near)) ≡ found
+least-none flow far hops reached vertex near found apart never =
+    least-in flow far hops reached vertex near found apart ∙ by (is_residual flow way) (comes_last far hops reached vertex way) refl refl
+  where
+    way : Way
+    way = way_in vertex near
+
+    by : (there last : Bool) → is_residual flow way ≡ there → comes_last far hops reached vertex way ≡ last → least_by (λ way. true) found (filter (comes_last far hops reached vertex) (only_if there way)) ≡ found
+    by false last is own = refl
+    by true false is own = ap (λ b. least_by (λ way. true) found (cond b (way ∷ []) [])) own
+    by true true is own =
+        let parts = and_parts (way.head == vertex) (is_tight far hops way && is_among nat_eq way.tail reached) own in
+        let rest = and_parts (is_tight far hops way) (is_among nat_eq way.tail reached) parts.1 in
+        absurd (never is (test-tight far hops way rest.0) rest.1)
+
+pub least-one : (flow : Flow) (far : ℕ → ℤ) (hops : ℕ → ℕ) (reached : List ℕ) (vertex : ℕ) (near : Near) (found : Option Way) → near.other ≢ vertex
+    → is_residual flow (way_in vertex near) ≡ true → IsTight far hops (way_in vertex near) → is_among nat_eq (way_in vertex near).tail reached ≡ true
+    → least_by (comes_last far hops reached vertex) found (ways_on flow (near_arc vertex near)) ≡ or_lesser true (way_in vertex near) found
+least-one flow far hops reached vertex near found apart there tight among =
+    let way = way_in vertex near in
+    let test : comes_last far hops reached vertex way ≡ true =
+    and_from (way.head == vertex) (is_tight far hops way && is_among nat_eq way.tail reached) (eq-eqb way.head vertex (in-ends vertex near).1)
+    (and_from (is_tight far hops way) (is_among nat_eq way.tail reached) (tight-test far hops way tight) among) in
+    least-in flow far hops reached vertex near found apart
+    ∙ ap (λ b. least_by (λ way. true) found (filter (comes_last far hops reached vertex) (only_if b way))) there
+    ∙ ap (λ b. least_by (λ way. true) found (cond b (way ∷ []) [])) test
+
+-- What is found on one arc more, and then on the rest.
+pub least-step : (test : Way → Bool) (flow : Flow) (vertex : ℕ) (nears : List Near) (i : ℕ) (d : Near) (found next : Option Way) → i < length nears
+    → next ≡ least_by test found (ways_on flow (near_arc vertex (get_or nears i d)))
+    → least_by test next (ways_by vertex flow (drop (i + 1) nears)) ≡ least_by test found (ways_by vertex flow (drop i nears))
+least-step test flow vertex nears i d found next within is =
+    let own = ways_on flow (near_arc vertex (get_or nears i d)) in
+    let rest = ways_by vertex flow (drop (i + 1) nears) in
+    let first : drop i nears ≡ get_or nears i d ∷ drop (i + 1) nears = drop-cons nears i d within ∙ ap (λ n. get_or nears i d ∷ drop n nears) (let h : suc i ≡ i + 1 = omega arith in h) in
+    ap (λ o. least_by test o rest) is ∙ sym (least_by-append test found own rest) ∙ ap (λ ns. least_by test found (ways_by vertex flow ns)) (sym first)
 
 least_last-by : (best : ℕ → Option Reach) (reach : Reach) (vertex : ℕ) (found : Option Way) (ways : List Way) → least_last best reach vertex found ways ≡ least_by (is_last best reach vertex) found ways
 least_last-by best reach vertex found [] = refl

@@ -1,54 +1,35 @@
 -- The search along tight arcs. Vertices are added behind those that are there, and are gone through in order. Each was found by a
 -- walk of tight arcs, and of each that was gone through the heads of its tight arcs are there too. At the end all were gone
 -- through, so what was reached is what walks of tight arcs reach.
-use Rattle.std.proofs.Common.{◌≡◌, ◌<◌, ◌≤◌, ◌+◌, ◌/◌, ◌==◌, ◌∙◌, ◌++◌, ◌⊎◌, ◌||◌, ◌&&◌, inl, ℕ, zero, suc, ℤ, nat_eq, Bool, true, false, not, cond, List, [], ◌∷◌, length, get_or, map, filter, take, drop, All, Contains, Some, refl, ap, sym, subst, arith, true≢false, ⊎_elim, append_assoc, length-append}
+use Rattle.std.proofs.Common.{◌≡◌, ◌≢◌, nat_lt, ◌<◌, ◌≤◌, ◌+◌, ◌/◌, ◌==◌, ◌∙◌, ◌++◌, ◌⊎◌, ◌||◌, ◌&&◌, inl, ℕ, zero, suc, ℤ, nat_eq, Bool, true, false, not, cond, List, [], ◌∷◌, length, get_or, map, filter, take, drop, All, Contains, Some, refl, ap, sym, subst, arith, true≢false, ⊎_elim, append_assoc, length-append}
 use Rattle.std.specs.List.{flat_map, IsDistinct}
 use Rattle.std.proofs.Math.Bool.{or_assoc, or-false}
 use Rattle.std.proofs.Math.Seq.{drop-cons}
 use Rattle.std.proofs.lemmas.Bool.{eqb-true, eq-eqb, or_left, or_right, or_cases, and_parts, and_from, not-true}
-use Rattle.std.proofs.lemmas.List.{append-nil, take_all, take_more, take-append-le, map-append}
+use Rattle.std.proofs.lemmas.List.{append-nil, get_or-map, length-map, take_all, take_more, take-append-le, map-append}
 use Rattle.std.proofs.lemmas.List.Folds.{list_any-append}
 use Rattle.std.proofs.lemmas.List.Sums.{fold-append}
-use Rattle.std.proofs.lemmas.List.Elements.{All-nil, All-head, All-tail, All-contains, All-filter, All-contains_itself, All-map, All-weaker, filter-append}
+use Rattle.std.proofs.lemmas.List.Elements.{All-nil, All-head, All-contains, All-filter, All-contains_itself, All-weaker, filter-append}
 use Rattle.std.proofs.lemmas.Map.Steps.{length-le_from_distinct_below}
 use Rattle.indexmap.specs.IndexSet.{insert_key, insert_all}
 use Rattle.net_base.specs.Keys.{is_among}
 use Rattle.flow_net.specs.declared.net.Net.{Net}
 use Rattle.flow_net.specs.declared.net.Flow.{Flow}
+use Rattle.stage_flow.specs.declared.ways.Near.{Near}
 use Rattle.flow_net.specs.Arcs.{Arc, arcs_of}
 use Rattle.stage_flow.specs.Residual.{Way, ways_on, ways_of, vertex_count}
 use Rattle.stage_flow.specs.Rounds.{is_reach}
 use Rattle.stage_flow.specs.LawsOfWalks.{IsTight, IsTightWalk, IsInLayer, EndsAreVertices, led_by, label}
-use Rattle.stage_flow.specs.Given.{touches, numbers_at}
+use Rattle.stage_flow.specs.Given.{touches, number_of, near_arc, arc_by_end, AreIncidences}
 use Rattle.stage_flow.specs.Passes.{mark_at}
-use Rattle.stage_flow.specs.Sending.{arc_at, residual, ways_by, AreRead, is_tight, leads_on, heads_of, AreReached}
+use Rattle.stage_flow.specs.Sending.{way_out, ways_by, ways_near, is_residual, IsRead, AreRead, is_tight, leads_on, heads_of, AreReached}
 use Rattle.stage_flow.specs.Staleness.{AreDead}
 use Rattle.stage_flow.proofs.Labels.{IsLow, tight_walk-push, tight_walk-tail}
 use Rattle.stage_flow.proofs.Path.{is_reach-is, is_reach-same}
 use Rattle.stage_flow.proofs.Units.{arc-low}
 use Rattle.stage_flow.proofs.Along.{way-on, way-on_arc, adding-there, taking-there, ways-there, adding-in, taking-in}
 use Rattle.stage_flow.proofs.Round.{ways-low}
-use Rattle.stage_flow.proofs.SendingArcs.{arc_at-there, arc_at-is}
-
--- ---- What is read is there
-read-low : (net : Net) (flow : Flow) (far : List ℤ) (hops : List ℕ) (number : ℕ) (takes : Bool) (way : Way) → AreRead net flow far hops → number / 2 < length net.pins → way ≡ residual takes (arc_at net number) → IsLow (vertex_count net) way
-read-low net flow far hops number takes way read within is =
-    let low = All-contains (λ (arc : Arc). (arc.tail < vertex_count net) × (arc.head < vertex_count net)) (arcs_of net) (arc_at net number) read.ends (arc_at-there net number within) in
-    subst (IsLow (vertex_count net)) (sym is) (by takes low.0 low.1)
-  where
-    by : (takes : Bool) → (arc_at net number).tail < vertex_count net → (arc_at net number).head < vertex_count net → IsLow (vertex_count net) (residual takes (arc_at net number))
-    by true tail head = (head, tail)
-    by false tail head = (tail, head)
-
-pub read-far : (net : Net) (flow : Flow) (far : List ℤ) (hops : List ℕ) (number : ℕ) (takes : Bool) (way : Way) → AreRead net flow far hops → number / 2 < length net.pins → way ≡ residual takes (arc_at net number) → (way.tail < length far) × (way.head < length far)
-read-far net flow far hops number takes way read within is =
-    let low = read-low net flow far hops number takes way read within is in
-    (omega (arith, low.0, read.each_far), omega (arith, low.1, read.each_far))
-
-pub read-hops : (net : Net) (flow : Flow) (far : List ℤ) (hops : List ℕ) (number : ℕ) (takes : Bool) (way : Way) → AreRead net flow far hops → number / 2 < length net.pins → way ≡ residual takes (arc_at net number) → (way.tail < length hops) × (way.head < length hops)
-read-hops net flow far hops number takes way read within is =
-    let low = read-low net flow far hops number takes way read within is in
-    (omega (arith, low.0, read.each_hops), omega (arith, low.1, read.each_hops))
+use Rattle.stage_flow.proofs.NearArcs.{only_if, out-alone, out-ends}
 
 -- ---- The residual arcs at a vertex
 filter-there : (test : Arc → Bool) (arcs : List Arc) (arc : Arc) → Contains arcs arc → test arc ≡ true → Contains (filter test arcs) arc
@@ -62,27 +43,59 @@ filter-there test (first ∷ arcs) arc (suc k, within, is) passes = by (test fir
     by true (j, inside, at) = (suc j, omega arith, at)
     by false rest = rest
 
--- those of the arcs that touch it
-abbrev pub ways_near : Net → Flow → ℕ → List Way
-ways_near net flow vertex = flat_map (ways_on flow) (filter (touches vertex) (arcs_of net))
-
 near-there : (net : Net) (vertex : ℕ) → All (Contains (arcs_of net)) (filter (touches vertex) (arcs_of net))
 near-there net vertex = All-filter (touches vertex) (Contains (arcs_of net)) (arcs_of net) (All-contains_itself (arcs_of net))
 
-pub ways_by-near : (net : Net) (flow : Flow) (vertex : ℕ) → ways_by net flow (numbers_at net vertex) ≡ ways_near net flow vertex
-ways_by-near net flow vertex = each (filter (touches vertex) (arcs_of net)) (near-there net vertex)
-  where
-    each : (arcs : List Arc) → All (Contains (arcs_of net)) arcs → ways_by net flow (map (λ (arc : Arc). arc.number) arcs) ≡ flat_map (ways_on flow) arcs
-    each [] there = refl
-    each (arc ∷ arcs) there =
-        let own = arc_at-is net arc (All-head (Contains (arcs_of net)) arc arcs there) in
-        let rest = each arcs (All-tail (Contains (arcs_of net)) arc arcs there) in
-        ap (λ (a : Arc). ways_on flow a ++ ways_by net flow (map (λ (one : Arc). one.number) arcs)) own ∙ ap (λ ways. ways_on flow arc ++ ways) rest
+-- A row stands for the arcs that touch its vertex, and so for their residual arcs.
+pub row-ways : (net : Net) (flow : Flow) (rows : List (List Near)) (vertex : ℕ) (nears : List Near) → AreIncidences net rows → vertex < vertex_count net → nears ≡ get_or rows vertex [] → ways_by vertex flow nears ≡ ways_near net flow vertex
+row-ways net flow rows vertex nears incidences low is = ap (ways_by vertex flow) is ∙ ap (flat_map (ways_on flow)) (incidences.at vertex low)
 
-pub numbers-low : (net : Net) (vertex : ℕ) → All (λ number. number / 2 < length net.pins) (numbers_at net vertex)
-numbers-low net vertex =
-    All-map (λ number. number / 2 < length net.pins) (λ (arc : Arc). arc.number) (filter (touches vertex) (arcs_of net))
-    (All-weaker (Contains (arcs_of net)) (λ (arc : Arc). arc.number / 2 < length net.pins) (λ arc there. arc-low net arc there) (filter (touches vertex) (arcs_of net)) (near-there net vertex))
+-- what is known of an entry of a row
+pub record IsNear (net : Net) (vertex : ℕ) (near : Near) : Type 0 where
+  pub apart : near.other ≢ vertex
+  pub pin : number_of near / 2 < length net.pins
+  pub low : near.other < vertex_count net
+  pub there : Contains (arcs_of net) (near_arc vertex near)
+
+pub row-near : (net : Net) (rows : List (List Near)) (vertex : ℕ) (nears : List Near) → EndsAreVertices net → AreIncidences net rows → vertex < vertex_count net → nears ≡ get_or rows vertex [] → All (IsNear net vertex) nears
+row-near net rows vertex nears ends incidences low is = subst (All (IsNear net vertex)) (sym is) each
+  where
+    row : List Near
+    row = get_or rows vertex []
+
+    on : Near → Arc
+    on = near_arc vertex
+
+    each : All (IsNear net vertex) row
+    each i d within =
+        let near = get_or row i d in
+        let long = length-map row on in
+        let there : Contains (arcs_of net) (on near) =
+        subst (Contains (arcs_of net)) (get_or-map on row i d (on d) within)
+        (subst (All (Contains (arcs_of net))) (sym (incidences.at vertex low)) (near-there net vertex) i (on d) (omega (arith, within, long))) in
+        let low = All-contains (λ (arc : Arc). (arc.tail < vertex_count net) × (arc.head < vertex_count net)) (arcs_of net) (on near) ends there in
+        record { apart = incidences.apart vertex low_ i d within; pin = by (nat_lt near.other vertex) (arc-low net (on near) there); low = other (nat_lt near.other vertex) low; there = there }
+      where
+        low_ : vertex < vertex_count net
+        low_ = low
+
+        by : (lower : Bool) → (arc_by_end lower vertex (get_or row i d)).number / 2 < length net.pins → number_of (get_or row i d) / 2 < length net.pins
+        by true h = h
+        by false h = h
+
+        other : (lower : Bool) → ((arc_by_end lower vertex (get_or row i d)).tail < vertex_count net) × ((arc_by_end lower vertex (get_or row i d)).head < vertex_count net) → (get_or row i d).other < vertex_count net
+        other true h = h.0
+        other false h = h.1
+
+-- So it can be read.
+pub row-read : (net : Net) (flow : Flow) (far : List ℤ) (hops : List ℕ) (rows : List (List Near)) (vertex : ℕ) (nears : List Near) → AreRead net flow far hops → AreIncidences net rows → vertex < vertex_count net → nears ≡ get_or rows vertex [] → All (IsRead flow far hops vertex) nears
+row-read net flow far hops rows vertex nears read incidences low is =
+    All-weaker (IsNear net vertex) (IsRead flow far hops vertex) (λ near known. record {
+      apart = known.apart;
+      units = omega (arith, known.pin, read.units);
+      lengths = (omega (arith, low, read.each_far), omega (arith, known.low, read.each_far));
+      counts = (omega (arith, low, read.each_hops), omega (arith, known.low, read.each_hops));
+    }) nears (row-near net rows vertex nears read.ends incidences low is)
 
 pub near-from : (net : Net) (flow : Flow) (vertex : ℕ) (way : Way) → Contains (ways_near net flow vertex) way → Contains (ways_of net flow) way
 near-from net flow vertex way there =
@@ -129,17 +142,41 @@ heads-append far hops marks vertex a b =
     ap (map (λ (way : Way). way.head)) (filter-append (leads_on far hops marks vertex) a b) ∙ map-append (λ (way : Way). way.head) (filter (leads_on far hops marks vertex) a) (filter (leads_on far hops marks vertex) b)
 
 -- What is reached over one arc more, and then over the rest.
-pub reached-step : (net : Net) (flow : Flow) (far : ℕ → ℤ) (hops : ℕ → ℕ) (marks : List Bool) (vertex : ℕ) (numbers : List ℕ) (i : ℕ) (keys next : List ℕ) → i < length numbers
-    → next ≡ insert_all nat_eq keys (heads_of far hops marks vertex (ways_on flow (arc_at net (get_or numbers i 0))))
-    → insert_all nat_eq next (heads_of far hops marks vertex (ways_by net flow (drop (i + 1) numbers))) ≡ insert_all nat_eq keys (heads_of far hops marks vertex (ways_by net flow (drop i numbers)))
-reached-step net flow far hops marks vertex numbers i keys next within is =
-    let own = ways_on flow (arc_at net (get_or numbers i 0)) in
-    let rest = ways_by net flow (drop (i + 1) numbers) in
-    let first : drop i numbers ≡ get_or numbers i 0 ∷ drop (i + 1) numbers = drop-cons numbers i 0 within ∙ ap (λ n. get_or numbers i 0 ∷ drop n numbers) (let h : suc i ≡ i + 1 = omega arith in h) in
+pub reached-step : (flow : Flow) (far : ℕ → ℤ) (hops : ℕ → ℕ) (marks : List Bool) (vertex : ℕ) (nears : List Near) (i : ℕ) (d : Near) (keys next : List ℕ) → i < length nears
+    → next ≡ insert_all nat_eq keys (heads_of far hops marks vertex (ways_on flow (near_arc vertex (get_or nears i d))))
+    → insert_all nat_eq next (heads_of far hops marks vertex (ways_by vertex flow (drop (i + 1) nears))) ≡ insert_all nat_eq keys (heads_of far hops marks vertex (ways_by vertex flow (drop i nears)))
+reached-step flow far hops marks vertex nears i d keys next within is =
+    let own = ways_on flow (near_arc vertex (get_or nears i d)) in
+    let rest = ways_by vertex flow (drop (i + 1) nears) in
+    let first : drop i nears ≡ get_or nears i d ∷ drop (i + 1) nears = drop-cons nears i d within ∙ ap (λ n. get_or nears i d ∷ drop n nears) (let h : suc i ≡ i + 1 = omega arith in h) in
     ap (λ ks. insert_all nat_eq ks (heads_of far hops marks vertex rest)) is
     ∙ sym (fold-append (insert_key nat_eq) keys (heads_of far hops marks vertex own) (heads_of far hops marks vertex rest))
     ∙ ap (insert_all nat_eq keys) (sym (heads-append far hops marks vertex own rest))
-    ∙ ap (λ ns. insert_all nat_eq keys (heads_of far hops marks vertex (ways_by net flow ns))) (sym first)
+    ∙ ap (λ ns. insert_all nat_eq keys (heads_of far hops marks vertex (ways_by vertex flow ns))) (sym first)
+
+-- The residual arc that leaves a vertex is the only one on an arc there whose head may be reached.
+pub heads-out : (flow : Flow) (far : ℕ → ℤ) (hops : ℕ → ℕ) (marks : List Bool) (vertex : ℕ) (near : Near) → near.other ≢ vertex
+    → heads_of far hops marks vertex (ways_on flow (near_arc vertex near)) ≡ heads_of far hops marks vertex (only_if (is_residual flow (way_out vertex near)) (way_out vertex near))
+heads-out flow far hops marks vertex near apart =
+    ap (map (λ (way : Way). way.head))
+    (out-alone (leads_on far hops marks vertex) flow vertex near apart (λ way passes. eqb-true way.tail vertex (and_parts (way.tail == vertex) (not (mark_at marks way.head) && is_tight far hops way) passes).0))
+
+-- Where that isn't there, or isn't tight, or leads to a marked vertex, no head is reached.
+pub heads-none : (flow : Flow) (far : ℕ → ℤ) (hops : ℕ → ℕ) (marks : List Bool) (vertex : ℕ) (near : Near) → near.other ≢ vertex
+    → (is_residual flow (way_out vertex near) ≡ true → mark_at marks (way_out vertex near).head ≡ false → IsTight far hops (way_out vertex near) → ⊥) → heads_of far hops marks vertex (ways_on flow (near_arc vertex near)) ≡ []
+heads-none flow far hops marks vertex near apart never =
+    heads-out flow far hops marks vertex near apart ∙ by (is_residual flow way) (leads_on far hops marks vertex way) refl refl
+  where
+    way : Way
+    way = way_out vertex near
+
+    by : (there leads : Bool) → is_residual flow way ≡ there → leads_on far hops marks vertex way ≡ leads → heads_of far hops marks vertex (only_if there way) ≡ []
+    by false leads is own = refl
+    by true false is own = ap (λ b. map (λ (w : Way). w.head) (cond b (way ∷ []) [])) own
+    by true true is own =
+        let parts = and_parts (way.tail == vertex) (not (mark_at marks way.head) && is_tight far hops way) own in
+        let rest = and_parts (not (mark_at marks way.head)) (is_tight far hops way) parts.1 in
+        absurd (never is (not-true (mark_at marks way.head) rest.0) (test-tight far hops way rest.1))
 
 head-among : (far : ℕ → ℤ) (hops : ℕ → ℕ) (marks : List Bool) (vertex : ℕ) (ways : List Way) (way : Way) → Contains ways way → way.tail ≡ vertex → IsTight far hops way → mark_at marks way.head ≡ false → is_among nat_eq way.head (heads_of far hops marks vertex ways) ≡ true
 head-among far hops marks vertex [] way (k, within, is) begins tight free = absurd (omega arith)

@@ -1,31 +1,29 @@
 -- Which labels a round leaves stale. A vertex that is found stale is marked, and the tails of the tight arcs into it are looked at again;
 -- every other vertex keeps the arc that made it sound. At the end nobody is left to be looked at, so who isn't marked is sound.
-use Rattle.std.proofs.Common.{◌≡◌, ◌≢◌, ◌<◌, ◌+◌, ◌==◌, ◌∙◌, ◌++◌, ◌⊎◌, inl, inr, ℕ, zero, suc, ℤ, Bool, true, false, cond, List, [], ◌∷◌, length, get_or, map, filter, take, drop, All, Any, Contains, Option, Some, None, refl, ap, sym, subst, arith, true≢false, ⊎_elim, append_assoc}
-use Rattle.std.specs.Prelude.{slice_set, slice_index}
-use Rattle.std.specs.List.{flat_map, sum_by}
+use Rattle.std.proofs.Common.{◌≡◌, ◌≢◌, ◌<◌, ◌+◌, ◌==◌, ◌∙◌, ◌++◌, ◌⊎◌, inl, inr, ℕ, zero, suc, ℤ, Bool, true, false, cond, List, [], ◌∷◌, length, get_or, map, filter, drop, All, Any, Contains, Option, Some, None, refl, ap, sym, subst, arith, true≢false, ⊎_elim, append_assoc}
+use Rattle.std.specs.Prelude.{slice_set}
+use Rattle.std.specs.List.{sum_by}
 use Rattle.std.proofs.lemmas.List.Sums.{sum_by-set}
 use Rattle.std.proofs.Math.Seq.{drop-cons}
-use Rattle.std.proofs.lemmas.Bool.{cases_eq, eqb-true, eqb-false, eq-eqb, and_from}
-use Rattle.std.proofs.lemmas.List.{flat_map_more, take_more, get_or-set_same, get_or-set_other, length-set, map-append}
+use Rattle.std.proofs.lemmas.Bool.{eqb-true, eq-eqb, and_parts, and_from}
+use Rattle.std.proofs.lemmas.List.{get_or-set_same, get_or-set_other, length-set, map-append}
 use Rattle.std.proofs.lemmas.List.Elements.{All-append, All-nil, All-cons, All-filter, All-map, All-contains, All-weaker, All-contains_itself, filter-append, Contains-append_left, Contains-append_right, Contains-append_cases}
 use Rattle.net_base.proofs.CallerLemmas.{Contains-one}
 use Rattle.flow_net.specs.declared.net.Net.{Net}
 use Rattle.flow_net.specs.declared.net.Flow.{Flow}
-use Rattle.flow_net.specs.Arcs.{Arc}
-use Rattle.flow_net.specs.Flows.{pin_units, units_on}
-use Rattle.stage_flow.specs.Residual.{Way, adding, taking, ways_on, ways_of, vertex_count}
+use Rattle.stage_flow.specs.declared.ways.Near.{Near}
+use Rattle.stage_flow.specs.Residual.{Way, ways_on, ways_of, vertex_count}
 use Rattle.stage_flow.specs.Rounds.{is_wanting}
 use Rattle.stage_flow.specs.LawsOfWalks.{IsTight, EndsAreVertices}
-use Rattle.stage_flow.specs.Sending.{arc_at, residual, ways_by, is_tight}
-use Rattle.stage_flow.specs.Given.{numbers_at}
+use Rattle.stage_flow.specs.Given.{near_arc}
+use Rattle.stage_flow.specs.Sending.{way_in, ways_by, ways_near, is_residual, is_tight}
 use Rattle.stage_flow.specs.Passes.{mark_at}
 use Rattle.stage_flow.specs.Mending.{IsSound}
 use Rattle.stage_flow.specs.Staleness.{LeadsAway, NoneLeadsAway, leads_to, tails_of, AreSpread}
 use Rattle.stage_flow.proofs.Labels.{IsLow}
-use Rattle.stage_flow.proofs.Along.{adding-there, taking-there}
 use Rattle.stage_flow.proofs.Round.{ways-low}
-use Rattle.stage_flow.proofs.SendingArcs.{arc_at-number}
-use Rattle.stage_flow.proofs.SendingSearch.{ways_near, ways_by-near, near-from, near-to, tight-test}
+use Rattle.stage_flow.proofs.NearArcs.{only_if, in-alone, in-ends}
+use Rattle.stage_flow.proofs.SendingSearch.{near-from, near-to, tight-test, test-tight}
 
 -- ---- Tails of tight arcs
 pub tails-append : (far : ℕ → ℤ) (hops : ℕ → ℕ) (vertex : ℕ) (a b : List Way) → tails_of far hops vertex (a ++ b) ≡ tails_of far hops vertex a ++ tails_of far hops vertex b
@@ -57,17 +55,38 @@ tails-low net flow far hops vertex ends =
     (ways_near net flow vertex) (All-contains_itself (ways_near net flow vertex))))
 
 -- What is listed over one arc more, and then over the rest.
-pub tails-step : (net : Net) (flow : Flow) (far : ℕ → ℤ) (hops : ℕ → ℕ) (vertex : ℕ) (numbers : List ℕ) (i : ℕ) (pending next : List ℕ) → i < length numbers
-    → next ≡ pending ++ tails_of far hops vertex (ways_on flow (arc_at net (get_or numbers i 0)))
-    → next ++ tails_of far hops vertex (ways_by net flow (drop (i + 1) numbers)) ≡ pending ++ tails_of far hops vertex (ways_by net flow (drop i numbers))
-tails-step net flow far hops vertex numbers i pending next within is =
-    let own = ways_on flow (arc_at net (get_or numbers i 0)) in
-    let rest = ways_by net flow (drop (i + 1) numbers) in
-    let first : drop i numbers ≡ get_or numbers i 0 ∷ drop (i + 1) numbers = drop-cons numbers i 0 within ∙ ap (λ n. get_or numbers i 0 ∷ drop n numbers) (let h : suc i ≡ i + 1 = omega arith in h) in
+pub tails-step : (flow : Flow) (far : ℕ → ℤ) (hops : ℕ → ℕ) (vertex : ℕ) (nears : List Near) (i : ℕ) (d : Near) (pending next : List ℕ) → i < length nears
+    → next ≡ pending ++ tails_of far hops vertex (ways_on flow (near_arc vertex (get_or nears i d)))
+    → next ++ tails_of far hops vertex (ways_by vertex flow (drop (i + 1) nears)) ≡ pending ++ tails_of far hops vertex (ways_by vertex flow (drop i nears))
+tails-step flow far hops vertex nears i d pending next within is =
+    let own = ways_on flow (near_arc vertex (get_or nears i d)) in
+    let rest = ways_by vertex flow (drop (i + 1) nears) in
+    let first : drop i nears ≡ get_or nears i d ∷ drop (i + 1) nears = drop-cons nears i d within ∙ ap (λ n. get_or nears i d ∷ drop n nears) (let h : suc i ≡ i + 1 = omega arith in h) in
     ap (λ ps. ps ++ tails_of far hops vertex rest) is
     ∙ append_assoc pending (tails_of far hops vertex own) (tails_of far hops vertex rest)
     ∙ ap (λ ts. pending ++ ts) (sym (tails-append far hops vertex own rest))
-    ∙ ap (λ ns. pending ++ tails_of far hops vertex (ways_by net flow ns)) (sym first)
+    ∙ ap (λ ns. pending ++ tails_of far hops vertex (ways_by vertex flow ns)) (sym first)
+
+-- The residual arc that enters a vertex is the only one on an arc there whose tail may be listed.
+pub tails-in : (flow : Flow) (far : ℕ → ℤ) (hops : ℕ → ℕ) (vertex : ℕ) (near : Near) → near.other ≢ vertex
+    → tails_of far hops vertex (ways_on flow (near_arc vertex near)) ≡ tails_of far hops vertex (only_if (is_residual flow (way_in vertex near)) (way_in vertex near))
+tails-in flow far hops vertex near apart =
+    ap (map (λ (way : Way). way.tail))
+    (in-alone (leads_to far hops vertex) flow vertex near apart (λ way passes. eqb-true way.head vertex (and_parts (way.head == vertex) (is_tight far hops way) passes).0))
+
+-- Where that isn't there, or isn't tight, no tail is listed.
+pub tails-none : (flow : Flow) (far : ℕ → ℤ) (hops : ℕ → ℕ) (vertex : ℕ) (near : Near) → near.other ≢ vertex
+    → (is_residual flow (way_in vertex near) ≡ true → IsTight far hops (way_in vertex near) → ⊥) → tails_of far hops vertex (ways_on flow (near_arc vertex near)) ≡ []
+tails-none flow far hops vertex near apart never =
+    tails-in flow far hops vertex near apart ∙ by (is_residual flow way) (leads_to far hops vertex way) refl refl
+  where
+    way : Way
+    way = way_in vertex near
+
+    by : (there leads : Bool) → is_residual flow way ≡ there → leads_to far hops vertex way ≡ leads → tails_of far hops vertex (only_if there way) ≡ []
+    by false leads is own = refl
+    by true false is own = ap (λ b. map (λ (w : Way). w.tail) (cond b (way ∷ []) [])) own
+    by true true is own = absurd (never is (test-tight far hops way (and_parts (way.head == vertex) (is_tight far hops way) own).1))
 
 -- ---- Marks
 mark-here : (marks : List Bool) (vertex : ℕ) → vertex < length marks → mark_at (slice_set marks vertex true) vertex ≡ true
@@ -188,59 +207,28 @@ spread-more net flow far hops marks vertices before after found ends each low id
 any-there : {A : Type 0} (P : A → Type 0) (items : List A) (item : A) → Contains items item → P item → Any P items
 any-there P items item (k, within, is) holds = (k, item, within, is, holds)
 
--- One of the residual arcs on an arc passes,
-pub any-adding : (P : Way → Type 0) (net : Net) (flow : Flow) (number : ℕ) (way : Way) → way ≡ residual false (arc_at net number) → P way → Any P (ways_on flow (arc_at net number))
-any-adding P net flow number way is holds =
-    any-there P (ways_on flow (arc_at net number)) (adding (arc_at net number)) (adding-there flow (arc_at net number)) (subst P is holds)
-
-pub any-taking : (P : Way → Type 0) (net : Net) (flow : Flow) (number units : ℕ) (way : Way) → units ≡ slice_index (flat_map pin_units flow.pins) number → 0 < units → way ≡ residual true (arc_at net number) → P way → Any P (ways_on flow (arc_at net number))
-any-taking P net flow number units way read some is holds =
-    let own : units_on flow (arc_at net number) ≡ units = ap (slice_index (flat_map pin_units flow.pins)) (arc_at-number net number) ∙ sym read in
-    any-there P (ways_on flow (arc_at net number)) (taking (arc_at net number)) (taking-there flow (arc_at net number) (omega (arith, own, some))) (subst P is holds)
-
--- or one of those on one of several arcs.
-pub any-by : (P : Way → Type 0) (net : Net) (flow : Flow) (numbers : List ℕ) (i number : ℕ) → i < length numbers → number ≡ get_or numbers i 0 → Any P (ways_on flow (arc_at net number)) → Any P (ways_by net flow numbers)
-any-by P net flow [] i number within at any = absurd (omega arith)
-any-by P net flow (first ∷ numbers) zero number within at (k, way, low, is, holds) =
-    let here = Contains-append_left (ways_on flow (arc_at net first)) (ways_by net flow numbers) way (subst (λ n. Contains (ways_on flow (arc_at net n)) way) at (k, low, is)) in
-    any-there P (ways_by net flow (first ∷ numbers)) way here holds
-any-by P net flow (first ∷ numbers) (suc i) number within at any =
-    let (k, way, low, is, holds) = any-by P net flow numbers i number (omega arith) at any in
-    any-there P (ways_by net flow (first ∷ numbers)) way (Contains-append_right (ways_on flow (arc_at net first)) (ways_by net flow numbers) way (k, low, is)) holds
-
--- None of the residual arcs on an arc passes,
-pub none-on : (P : Way → Type 0) (flow : Flow) (arc : Arc) → (P (adding arc) → ⊥) → (0 < units_on flow arc → P (taking arc) → ⊥) → All (λ way. P way → ⊥) (ways_on flow arc)
-none-on P flow arc adds takes = by (units_on flow arc == 0) refl
-  where
-    by : (b : Bool) → (units_on flow arc == 0) ≡ b → All (λ (way : Way). P way → ⊥) (adding arc ∷ cond b [] (taking arc ∷ []))
-    by true empty = All-cons (λ (way : Way). P way → ⊥) (adding arc) [] adds (All-nil (λ (way : Way). P way → ⊥))
-    by false some =
-        let units = eqb-false (units_on flow arc) 0 some in
-        let more : 0 < units_on flow arc = ⊎_elim {C = 0 < units_on flow arc} (λ same. absurd (units same)) (λ other. omega (arith, other)) (cases_eq (units_on flow arc) 0) in
-        All-cons (λ (way : Way). P way → ⊥) (adding arc) (taking arc ∷ []) adds (All-cons (λ (way : Way). P way → ⊥) (taking arc) [] (takes more) (All-nil (λ (way : Way). P way → ⊥)))
-
--- and none of those on one arc more.
-pub none-more : (P : Way → Type 0) (net : Net) (flow : Flow) (numbers : List ℕ) (i number : ℕ) → i < length numbers → number ≡ get_or numbers i 0 → All (λ way. P way → ⊥) (ways_by net flow (take i numbers)) → All (λ way. P way → ⊥) (ways_on flow (arc_at net number))
-    → All (λ way. P way → ⊥) (ways_by net flow (take (i + 1) numbers))
-none-more P net flow numbers i number within at before here =
-    let own = get_or numbers i 0 in
-    subst (λ ns. All (λ (way : Way). P way → ⊥) (ways_by net flow ns)) (sym (take_more numbers i 0 within))
-    (subst (All (λ (way : Way). P way → ⊥)) (flat_map_more (λ n. ways_on flow (arc_at net n)) [] (take i numbers) own)
-    (All-append (λ (way : Way). P way → ⊥) (ways_by net flow (take i numbers)) (ways_on flow (arc_at net own)) before (subst (λ n. All (λ (way : Way). P way → ⊥) (ways_on flow (arc_at net n))) at here)))
+-- One of the residual arcs on one of several arcs passes,
+pub any-by : (P : Way → Type 0) (flow : Flow) (vertex : ℕ) (nears : List Near) (i : ℕ) (d : Near) → i < length nears → Any P (ways_on flow (near_arc vertex (get_or nears i d))) → Any P (ways_by vertex flow nears)
+any-by P flow vertex [] i d within any = absurd (omega arith)
+any-by P flow vertex (first ∷ nears) zero d within (k, way, low, is, holds) =
+    any-there P (ways_by vertex flow (first ∷ nears)) way (Contains-append_left (ways_on flow (near_arc vertex first)) (ways_by vertex flow nears) way (k, low, is)) holds
+any-by P flow vertex (first ∷ nears) (suc i) d within any =
+    let (k, way, low, is, holds) = any-by P flow vertex nears i d (omega arith) any in
+    any-there P (ways_by vertex flow (first ∷ nears)) way (Contains-append_right (ways_on flow (near_arc vertex first)) (ways_by vertex flow nears) way (k, low, is)) holds
 
 -- Where nothing leads away from a vertex by the arcs near it, nothing does.
-pub near-none : (net : Net) (flow : Flow) (far : ℕ → ℤ) (hops : ℕ → ℕ) (marks : List Bool) (vertex : ℕ) (numbers : List ℕ) → numbers ≡ numbers_at net vertex → NoneLeadsAway far hops marks vertex (ways_by net flow numbers) → NoneLeadsAway far hops marks vertex (ways_of net flow)
-near-none net flow far hops marks vertex numbers is none =
+pub near-none : (net : Net) (flow : Flow) (far : ℕ → ℤ) (hops : ℕ → ℕ) (marks : List Bool) (vertex : ℕ) (ways : List Way) → ways ≡ ways_near net flow vertex → NoneLeadsAway far hops marks vertex ways → NoneLeadsAway far hops marks vertex (ways_of net flow)
+near-none net flow far hops marks vertex ways is none =
     All-weaker (Contains (ways_of net flow)) (λ (way : Way). LeadsAway far hops marks vertex way → ⊥)
     (λ way there leads.
     All-contains (λ (one : Way). LeadsAway far hops marks vertex one → ⊥) (ways_near net flow vertex) way
-    (subst (NoneLeadsAway far hops marks vertex) (ap (ways_by net flow) is ∙ ways_by-near net flow vertex) none) (near-to net flow vertex way there (inl leads.0)) leads)
+    (subst (NoneLeadsAway far hops marks vertex) is none) (near-to net flow vertex way there (inl leads.0)) leads)
     (ways_of net flow) (All-contains_itself (ways_of net flow))
 
 -- What leads away from a vertex by the arcs near it makes it sound.
-pub near-sound : (net : Net) (flow : Flow) (far : ℕ → ℤ) (hops : ℕ → ℕ) (marks : List Bool) (vertex : ℕ) (numbers : List ℕ) → numbers ≡ numbers_at net vertex → Any (LeadsAway far hops marks vertex) (ways_by net flow numbers) → IsSound net flow far hops marks vertex
-near-sound net flow far hops marks vertex numbers is any =
-    let (k, way, low, at, holds) = subst (Any (LeadsAway far hops marks vertex)) (ap (ways_by net flow) is ∙ ways_by-near net flow vertex) any in
+pub near-sound : (net : Net) (flow : Flow) (far : ℕ → ℤ) (hops : ℕ → ℕ) (marks : List Bool) (vertex : ℕ) (ways : List Way) → ways ≡ ways_near net flow vertex → Any (LeadsAway far hops marks vertex) ways → IsSound net flow far hops marks vertex
+near-sound net flow far hops marks vertex ways is any =
+    let (k, way, low, at, holds) = subst (Any (LeadsAway far hops marks vertex)) is any in
     inr (any-there (LeadsAway far hops marks vertex) (ways_of net flow) way (near-from net flow vertex way (k, low, at)) holds)
 
 -- What was looked at, when one vertex more was taken off and found marked or sound,

@@ -1,11 +1,12 @@
 -- What a search and a round are given: a network of gates, a part of a full flow on it, and potentials that fit.
-use Rattle.std.specs.Prelude.{◌≡◌, ◌<◌, ◌^◌, ◌≤ℤ◌, ◌-ℤ◌, ℕ, ℤ, pos, List, [], length, slice_index_or, map, filter, Bool, ◌==◌, ◌||◌}
+use Rattle.std.specs.Prelude.{◌≡◌, ◌≢◌, ◌<◌, ◌/◌, ◌%◌, ◌^◌, ◌≤ℤ◌, ◌-ℤ◌, ℕ, ℤ, pos, List, [], length, slice_index_or, map, filter, All, Bool, true, false, cond, nat_lt, ◌==◌, ◌||◌}
 use Rattle.gate_net.specs.declared.net.GateNet.{GateNet}
 use Rattle.gate_net.specs.Net.{EachGateIsUsed}
 use Rattle.flow_net.specs.declared.net.Net.{Net}
 use Rattle.flow_net.specs.declared.net.Flow.{Flow}
 use Rattle.flow_net.specs.Network.{network_of, HasNetwork}
 use Rattle.flow_net.specs.Arcs.{Arc, arcs_of}
+use Rattle.stage_flow.specs.declared.ways.Near.{Near}
 use Rattle.stage_flow.specs.Residual.{vertex_count}
 use Rattle.stage_flow.specs.LawsOfEpochs.{FitsFlow}
 
@@ -35,11 +36,32 @@ pub record ArePotentials (net : Net) (flow : Flow) (potentials : List ℤ) : Typ
 abbrev pub touches : ℕ → Arc → Bool
 touches vertex arc = (arc.tail == vertex) || (arc.head == vertex)
 
--- the numbers of the arcs that begin or end at a vertex, ascending
-abbrev pub numbers_at : Net → ℕ → List ℕ
-numbers_at net vertex = map (λ (arc : Arc). arc.number) (filter (touches vertex) (arcs_of net))
+-- the arcs that begin or end at a vertex, in the order of their numbers
+abbrev pub arcs_at : Net → ℕ → List Arc
+arcs_at net vertex = filter (touches vertex) (arcs_of net)
 
--- lists of numbers are those of the arcs at each vertex
-pub record AreIncidences (net : Net) (lists : List (List ℕ)) : Type 0 where
-  pub each : length lists ≡ vertex_count net
-  pub at : (vertex : ℕ) → vertex < vertex_count net → slice_index_or lists vertex [] ≡ numbers_at net vertex
+-- ---- Rows of arcs
+-- what a row has of an arc: its number, and the weight of its pin
+abbrev pub number_of : Near → ℕ
+number_of near = near.code / 2
+
+abbrev pub weight_of : Near → ℕ
+weight_of near = near.code % 2
+
+-- the length of an arc by them, as forward arcs have even numbers
+abbrev pub length_of : Near → ℤ
+length_of near = cond (number_of near % 2 == 0) (pos (weight_of near)) (pos 0 -ℤ pos (weight_of near))
+
+-- the arc that an entry of a vertex' row stands for: it begins at the lesser of the two vertices
+abbrev pub arc_by_end : Bool → ℕ → Near → Arc
+arc_by_end true vertex near = record { tail = near.other; head = vertex; length = length_of near; number = number_of near }
+arc_by_end false vertex near = record { tail = vertex; head = near.other; length = length_of near; number = number_of near }
+
+abbrev pub near_arc : ℕ → Near → Arc
+near_arc vertex near = arc_by_end (nat_lt near.other vertex) vertex near
+
+-- rows of entries stand for the arcs at each vertex, none of which leads back to it
+pub record AreIncidences (net : Net) (rows : List (List Near)) : Type 0 where
+  pub each : length rows ≡ vertex_count net
+  pub at : (vertex : ℕ) → vertex < vertex_count net → map (near_arc vertex) (slice_index_or rows vertex []) ≡ arcs_at net vertex
+  pub apart : (vertex : ℕ) → vertex < vertex_count net → All (λ near. near.other ≢ vertex) (slice_index_or rows vertex [])

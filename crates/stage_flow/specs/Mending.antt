@@ -1,5 +1,5 @@
 -- Labels that are right but at some vertices, the stale ones, and how those are put right.
-use Rattle.std.specs.Prelude.{◌≡◌, ◌<◌, ◌⊎◌, ◌+◌, ◌&&◌, ◌≤ℤ◌, ◌^◌, ◌+ℤ◌, ◌-ℤ◌, ◌*ℤ◌, ℕ, ℤ, pos, Bool, true, false, not, List, ◌∷◌, ◌++◌, length, map, filter, drop, All, Any, Contains, IsPermutation}
+use Rattle.std.specs.Prelude.{◌≡◌, ◌≢◌, ◌<◌, ◌/◌, ◌⊎◌, ◌+◌, ◌&&◌, ◌≤ℤ◌, ◌^◌, ◌+ℤ◌, ◌-ℤ◌, ◌*ℤ◌, ℕ, ℤ, pos, Bool, true, false, not, List, ◌∷◌, ◌++◌, length, map, filter, drop, All, Any, Contains, IsPermutation}
 use Rattle.std.specs.declared.cmp.Ordering.{Ordering}
 use Rattle.std.specs.Ordering.{int_cmp, nat_cmp, ordering_then}
 use Rattle.flow_net.specs.declared.net.Net.{Net}
@@ -8,9 +8,11 @@ use Rattle.stage_flow.specs.declared.offers.Offer.{Offer}
 use Rattle.stage_flow.specs.Residual.{Way, ways_of, vertex_count}
 use Rattle.stage_flow.specs.Longest.{Reach}
 use Rattle.stage_flow.specs.Rounds.{is_wanting}
-use Rattle.stage_flow.specs.Given.{at_vertex, count_at}
+use Rattle.stage_flow.specs.declared.ways.Near.{Near}
+use Rattle.stage_flow.specs.Given.{at_vertex, count_at, number_of}
 use Rattle.stage_flow.specs.LawsOfWalks.{led_by, label, IsFitting, IsTight}
 use Rattle.stage_flow.specs.Passes.{mark_at}
+use Rattle.stage_flow.specs.Sending.{way_out, way_in}
 
 -- A label as one number, which is less the better the label is: its length negated, weighed so that no number of arcs outweighs it, and
 -- its arcs. By an arc it grows by the same for every label.
@@ -88,6 +90,13 @@ pub record IsOffered (far : List ℤ) (hops : List ℕ) (way : Way) : Type 0 whe
   pub low : (pos 0 -ℤ pos (2 ^ 62)) ≤ℤ (way.length +ℤ at_vertex far way.head)
   pub high : (way.length +ℤ at_vertex far way.head) ≤ℤ pos (2 ^ 62)
   pub few : count_at hops way.head + 1 < 2 ^ 32
+
+-- both residual arcs on an arc at a vertex can be: it leads to another vertex, and there are units for it
+pub record IsOfferedBy (flow : Flow) (far : List ℤ) (hops : List ℕ) (vertex : ℕ) (near : Near) : Type 0 where
+  pub apart : near.other ≢ vertex
+  pub units : number_of near / 2 < length flow.pins
+  pub out : IsOffered far hops (way_out vertex near)
+  pub into : IsOffered far hops (way_in vertex near)
 
 -- units, labels and marks, each for all pins or vertices, and each label within 2^42 and by fewer arcs than there are vertices
 pub record AreHeld (net : Net) (flow : Flow) (far : List ℤ) (hops : List ℕ) (stale : List Bool) : Type 0 where

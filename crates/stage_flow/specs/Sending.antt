@@ -1,45 +1,58 @@
 -- How a round is read off labels: residual arcs by the numbers of their arcs, tight ones, and what they reach.
-use Rattle.std.specs.Prelude.{◌≡◌, ◌<◌, ◌/◌, ◌%◌, ◌^◌, ◌==◌, ◌&&◌, ◌-◌, ◌-ℤ◌, ℕ, ℤ, pos, nat_eq, Bool, true, false, not, cond, List, [], ◌∷◌, length, map, filter, slice_index, slice_index_or, Option, Some}
-use Rattle.std.specs.List.{flat_map}
+use Rattle.std.specs.Prelude.{◌≡◌, ◌≢◌, ◌<◌, ◌/◌, ◌%◌, ◌^◌, ◌==◌, ◌&&◌, ◌||◌, ◌-◌, ◌-ℤ◌, ℕ, ℤ, pos, nat_eq, nat_lt, Bool, true, false, not, cond, List, [], ◌∷◌, length, map, filter, slice_index, Option, Some}
+use Rattle.std.specs.List.{flat_map, IsDistinct}
 use Rattle.net_base.specs.Keys.{is_among}
-use Rattle.flow_net.specs.declared.net.Pin.{Pin}
 use Rattle.flow_net.specs.declared.net.Net.{Net}
 use Rattle.flow_net.specs.declared.net.Units.{Units}
 use Rattle.flow_net.specs.declared.net.Flow.{Flow}
-use Rattle.flow_net.specs.Arcs.{Arc, mirror_of}
+use Rattle.flow_net.specs.Arcs.{Arc}
 use Rattle.flow_net.specs.Flows.{pin_units}
 use Rattle.stage_flow.specs.declared.ways.Step.{Step}
+use Rattle.stage_flow.specs.declared.ways.Near.{Near}
 use Rattle.stage_flow.specs.Residual.{Way, adding, taking, ways_on, ways_of, vertex_count}
+use Rattle.stage_flow.specs.Given.{arcs_at, number_of, length_of, near_arc}
 use Rattle.stage_flow.specs.Rounds.{is_reach, or_lesser, along}
 use Rattle.stage_flow.specs.LawsOfWalks.{led_by, label, EndsAreVertices, IsInLayer}
 use Rattle.stage_flow.specs.Passes.{mark_at}
 
--- ---- Residual arcs by numbers
+-- ---- Residual arcs at a vertex
 -- a residual arc of the code
 abbrev pub way_of : Step → Way
 way_of step = record { tail = step.tail; head = step.head; length = step.length; number = step.number; takes = step.takes }
-
--- the arc of a pin with a number: the forward one, or the back one
-abbrev pub arc_by : Bool → Net → Pin → ℕ → Arc
-arc_by true net pin number = record { tail = pin.from; head = pin.to; length = pos pin.weight; number = number }
-arc_by false net pin number = record { tail = pin.to; head = mirror_of net pin.driver; length = pos 0 -ℤ pos pin.weight; number = number }
-
--- the pin at a place
-abbrev pub pin_at : Net → ℕ → Pin
-pin_at net place = slice_index_or net.pins place (record { driver = 0; from = 0; to = 0; weight = 0 })
-
--- the arc with a number
-abbrev pub arc_at : Net → ℕ → Arc
-arc_at net number = arc_by (number % 2 == 0) net (pin_at net (number / 2)) number
 
 -- the residual arc on an arc that takes a unit back, or adds one
 abbrev pub residual : Bool → Arc → Way
 residual true arc = taking arc
 residual false arc = adding arc
 
--- the residual arcs of arcs with these numbers
-abbrev pub ways_by : Net → Flow → List ℕ → List Way
-ways_by net flow numbers = flat_map (λ number. ways_on flow (arc_at net number)) numbers
+-- the residual arcs on an arc at a vertex that leave the vertex, and that enter it
+abbrev pub way_out : ℕ → Near → Way
+way_out vertex near = residual (nat_lt near.other vertex) (near_arc vertex near)
+
+abbrev pub way_in : ℕ → Near → Way
+way_in vertex near = residual (not (nat_lt near.other vertex)) (near_arc vertex near)
+
+-- their length, by whether they take a unit back
+abbrev pub length_by : Bool → Near → ℤ
+length_by takes near = cond takes (pos 0 -ℤ length_of near) (length_of near)
+
+-- a residual arc is there: what takes a unit back needs one
+abbrev pub is_residual : Flow → Way → Bool
+is_residual flow way = not way.takes || not (slice_index (flat_map pin_units flow.pins) way.number == 0)
+
+-- the residual arcs on arcs at a vertex
+abbrev pub ways_by : ℕ → Flow → List Near → List Way
+ways_by vertex flow nears = flat_map (ways_on flow) (map (near_arc vertex) nears)
+
+abbrev pub ways_near : Net → Flow → ℕ → List Way
+ways_near net flow vertex = flat_map (ways_on flow) (arcs_at net vertex)
+
+-- What is read of an arc at a vertex: it leads to another one, there are units for it, and labels for both.
+pub record IsRead (flow : Flow) (far : List ℤ) (hops : List ℕ) (vertex : ℕ) (near : Near) : Type 0 where
+  pub apart : near.other ≢ vertex
+  pub units : number_of near / 2 < length flow.pins
+  pub lengths : (vertex < length far) × (near.other < length far)
+  pub counts : (vertex < length hops) × (near.other < length hops)
 
 -- What is read: a network with less than 2^32 vertices, units for each pin, and labels for each vertex.
 pub record AreRead (net : Net) (flow : Flow) (far : List ℤ) (hops : List ℕ) : Type 0 where
@@ -68,6 +81,11 @@ pub record AreReached (net : Net) (flow : Flow) (far : ℕ → ℤ) (hops : ℕ 
   pub low : (vertex : ℕ) → is_among nat_eq vertex reached ≡ true → vertex < vertex_count net
   pub fresh : (vertex : ℕ) → is_among nat_eq vertex reached ≡ true → mark_at marks vertex ≡ false
   pub all : (vertex steps : ℕ) → IsInLayer far hops (ways_of net flow) from steps vertex → mark_at marks vertex ≡ false → is_among nat_eq vertex reached ≡ true
+
+-- marks of vertices say which of them are there, and each is there once
+pub record SayWhoIsThere (marks : List Bool) (keys : List ℕ) : Type 0 where
+  pub unique : IsDistinct nat_eq keys
+  pub each : (vertex : ℕ) → mark_at marks vertex ≡ is_among nat_eq vertex keys
 
 -- ---- The path, read backwards
 -- a tight residual arc into a vertex that comes from one of those that were reached

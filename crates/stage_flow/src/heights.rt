@@ -11,13 +11,13 @@
 ghost use Rattle.std.specs.Prelude.{◌≡◌, ◌<◌, ◌/◌, ◌+ℤ◌, ◌↔◌, All, IsTrue, length, OnOk, IfOk};
 ghost use Rattle.stage_flow.specs.Residual.{vertex_count};
 ghost use Rattle.stage_flow.specs.Given.{AreIncidences, at_vertex};
-ghost use Rattle.stage_flow.specs.Sending.{AreRead};
+ghost use Rattle.stage_flow.specs.Sending.{IsRead, AreRead};
 ghost use Rattle.stage_flow.specs.Raising.{AreTracked, AreAtRest};
 
 use crate::incidence::{Incidence, vertices};
 use crate::offers::is_marked;
 use crate::search::Labels;
-use crate::ways::{Step, step_at, units_at};
+use crate::ways::{Near, Step, is_there, step_out};
 use flow_net::{Flow, Net};
 use net_base::NoMemory;
 use std::alloc::Global;
@@ -128,31 +128,29 @@ fn slack(labels: &Labels, step: Step) -> u32
     next_hops.saturating_add(1).saturating_sub(hops)
 }
 
-// Comes down over a residual arc, if it leaves a vertex, from that vertex' height.
-fn come_by(
+// Comes down over the residual arc on an arc that leaves a vertex, from that vertex' height.
+fn come_over(
+    flow: &Flow,
     labels: &Labels,
     marks: &[bool],
     vertex: u32,
     height: u32,
-    step: Step,
+    near: Near,
     room: &mut Room,
 ) -> Result<(), NoMemory>
-    requires far { (step.tail < length labels.now.far) × (step.head < length labels.now.far) }
-    requires hops { (step.tail < length labels.now.hops) × (step.head < length labels.now.hops) }
-    requires heights { step.head < length room.old.heights.items }
+    requires read { IsRead flow.now labels.now.far labels.now.hops vertex near }
+    requires each { length room.old.heights.items ≡ length labels.now.hops }
     requires tracked { AreTracked room.old.heights.items room.old.reached.items }
     ensures each { length room.new.heights.items ≡ length room.old.heights.items }
     ensures tracked { OnOk result (AreTracked room.new.heights.items room.new.reached.items) }
 {
-    if step.tail != vertex {
-        return Ok(());
-    }
+    let step = step_out(vertex, near);
     let height = height.saturating_sub(slack(labels, step));
-    // Of most heads it is known that they stand as high. There lengths, which lie far apart, needn't be read.
+    // Of most heads it is known that they stand as high. There lengths and units, which lie far apart, needn't be read.
     if height <= room.floor || room.heights[step.head as usize] >= height {
         return Ok(());
     }
-    if !is_level(labels, step) {
+    if !is_level(labels, step) || !is_there(flow, step) {
         return Ok(());
     }
     if !is_marked(marks, step.head) {
@@ -166,62 +164,24 @@ fn come_by(
     Ok(())
 }
 
-// Comes down over the residual arcs on an arc that leave a vertex.
-fn come_over(
-    net: &Net,
-    flow: &Flow,
-    labels: &Labels,
-    marks: &[bool],
-    vertex: u32,
-    height: u32,
-    number: u32,
-    room: &mut Room,
-) -> Result<(), NoMemory>
-    requires read { AreRead net.now flow.now labels.now.far labels.now.hops }
-    requires pin { number / 2 < length net.now.pins }
-    requires each { length room.old.heights.items ≡ vertex_count net.now }
-    requires tracked { AreTracked room.old.heights.items room.old.reached.items }
-    ensures each { length room.new.heights.items ≡ length room.old.heights.items }
-    ensures tracked { OnOk result (AreTracked room.new.heights.items room.new.reached.items) }
-{
-    let step = step_at(net, number, false);
-    // Where the arc itself leaves the vertex, its reverse enters it, and units needn't be read.
-    if step.tail == vertex {
-        return come_by(labels, marks, vertex, height, step, room);
-    }
-    if units_at(flow, number) > 0 {
-        come_by(
-            labels,
-            marks,
-            vertex,
-            height,
-            step_at(net, number, true),
-            room,
-        )?;
-    }
-    Ok(())
-}
-
 // Comes down over the residual arcs on these arcs that leave a vertex.
 fn come_from(
-    net: &Net,
     flow: &Flow,
     labels: &Labels,
     marks: &[bool],
     vertex: u32,
     height: u32,
-    numbers: &[u32],
+    nears: &[Near],
     room: &mut Room,
 ) -> Result<(), NoMemory>
-    requires read { AreRead net.now flow.now labels.now.far labels.now.hops }
-    requires pins { All (λ number. number / 2 < length net.now.pins) numbers.now }
-    requires each { length room.old.heights.items ≡ vertex_count net.now }
+    requires read { All (IsRead flow.now labels.now.far labels.now.hops vertex) nears.now }
+    requires each { length room.old.heights.items ≡ length labels.now.hops }
     requires tracked { AreTracked room.old.heights.items room.old.reached.items }
     ensures each { length room.new.heights.items ≡ length room.old.heights.items }
     ensures tracked { OnOk result (AreTracked room.new.heights.items room.new.reached.items) }
 {
-    for number in numbers {
-        come_over(net, flow, labels, marks, vertex, height, *number, room)?;
+    for near in nears {
+        come_over(flow, labels, marks, vertex, height, *near, room)?;
     }
     Ok(())
 }
@@ -282,7 +242,6 @@ pub(crate) fn search(
         // A vertex to which it came higher later on waits in vain.
         if stands_at(room.heights.as_slice(), vertex, height) {
             come_from(
-                net,
                 flow,
                 labels,
                 marks,

@@ -43,6 +43,7 @@ mod passes;
 mod potentials;
 mod progress;
 mod raising;
+mod reached;
 mod reviving;
 mod search;
 mod senders;

@@ -10,21 +10,21 @@
 //! Source: Dijkstra's search, over what is left of costs once old labels are taken off (1959); shortest paths repaired where they
 //! changed alone (Ramalingam and Reps 1996). Here the old labels are kept until new ones are known, and serve as potentials.
 
-ghost use Rattle.std.specs.Prelude.{◌≡◌, ◌<◌, ◌/◌, ℕ, false, ◌∷◌, [], length, All, IfOk, OnOk, IsTrue, MatchOption, slice_set};
+ghost use Rattle.std.specs.Prelude.{◌≡◌, ◌<◌, ℕ, false, length, All, IfOk, OnOk, IsTrue, MatchOption, slice_set};
 ghost use Rattle.std.specs.List.{flat_map};
 ghost use Rattle.stage_flow.specs.Residual.{ways_on, vertex_count};
 ghost use Rattle.stage_flow.specs.LawsOfWalks.{AreLabels};
 ghost use Rattle.stage_flow.specs.LawsOfSending.{IsPartFlow, SomeMirrorWants};
-ghost use Rattle.stage_flow.specs.Given.{IsNetwork, AreIncidences, at_vertex, count_at, numbers_at};
-ghost use Rattle.stage_flow.specs.Sending.{way_of, arc_at, ways_by};
+ghost use Rattle.stage_flow.specs.Given.{IsNetwork, AreIncidences, at_vertex, count_at, near_arc};
+ghost use Rattle.stage_flow.specs.Sending.{way_of, ways_by, ways_near};
 ghost use Rattle.stage_flow.specs.Passes.{mark_at, reach_by, standing};
 ghost use Rattle.stage_flow.specs.Waiting.{waiting};
-ghost use Rattle.stage_flow.specs.Mending.{cost, offer_by, offers_of, AreAdded, IsFirst, NoneIsStale, IsOffered, AreHeld, AreRightOutside, AreMarked, AreAhead};
+ghost use Rattle.stage_flow.specs.Mending.{cost, offer_by, offers_of, AreAdded, IsFirst, NoneIsStale, IsOffered, IsOfferedBy, AreHeld, AreRightOutside, AreMarked, AreAhead};
 
 use crate::incidence::Incidence;
 use crate::offers::{Offer, Queue, is_marked};
 use crate::search::Labels;
-use crate::ways::{Step, step_at, units_at};
+use crate::ways::{Near, Step, is_there, step_in, step_out};
 use flow_net::{Flow, Net};
 use net_base::{List, NoMemory};
 use std::mem;
@@ -57,70 +57,50 @@ fn offer_over(far: &[i64], hops: &[u32], step: Step) -> Offer
     }
 }
 
-// Adds the offer of a residual arc, if it leads from a stale vertex to one that isn't.
-fn push_by(
+// Adds the offers of the residual arcs on an arc at a vertex that lead from a stale vertex to one that isn't.
+fn push_over(
+    flow: &Flow,
     far: &[i64],
     hops: &[u32],
     stale: &[bool],
-    step: Step,
+    vertex: u32,
+    near: Near,
     queue: &mut Queue,
 ) -> Result<(), NoMemory>
-    requires { IsOffered far.now hops.now (way_of step) }
-    ensures { OnOk result (AreAdded (offers_of (standing far.now hops.now) stale.now (way_of step ∷ [])) (waiting queue.old) (waiting queue.new)) }
+    requires { IsOfferedBy flow.now far.now hops.now vertex near }
+    ensures { OnOk result (AreAdded (offers_of (standing far.now hops.now) stale.now (ways_on flow.now (near_arc vertex near))) (waiting queue.old) (waiting queue.new)) }
 {
-    if is_marked(stale, step.tail) && !is_marked(stale, step.head) {
+    let leaves = is_marked(stale, vertex);
+    // Where both ends are stale, or neither, no residual arc leads from a stale vertex to another.
+    if leaves == is_marked(stale, near.other) {
+        return Ok(());
+    }
+    let step = if leaves {
+        step_out(vertex, near)
+    } else {
+        step_in(vertex, near)
+    };
+    if is_there(flow, step) {
         queue.push(offer_over(far, hops, step))?;
     }
     Ok(())
 }
 
-// Adds the offers of the residual arcs on an arc.
-fn push_over(
-    net: &Net,
-    flow: &Flow,
-    far: &[i64],
-    hops: &[u32],
-    stale: &[bool],
-    number: u32,
-    queue: &mut Queue,
-) -> Result<(), NoMemory>
-    requires net { IsNetwork net.now }
-    requires held { AreHeld net.now flow.now far.now hops.now stale.now }
-    requires pin { number / 2 < length net.now.pins }
-    ensures { OnOk result (AreAdded (offers_of (standing far.now hops.now) stale.now (ways_on flow.now (arc_at net.now number))) (waiting queue.old) (waiting queue.new)) }
-{
-    let step = step_at(net, number, false);
-    let leaves_stale = is_marked(stale, step.tail);
-    // Where both ends are stale, or neither, no residual arc on it leads from a stale vertex to another.
-    if leaves_stale == is_marked(stale, step.head) {
-        return Ok(());
-    }
-    if leaves_stale {
-        return push_by(far, hops, stale, step, queue);
-    }
-    if units_at(flow, number) > 0 {
-        push_by(far, hops, stale, step_at(net, number, true), queue)?;
-    }
-    Ok(())
-}
-
-// Adds the offers of the residual arcs on these arcs.
+// Adds the offers of those on these arcs.
 fn push_from(
-    net: &Net,
     flow: &Flow,
     far: &[i64],
     hops: &[u32],
     stale: &[bool],
-    numbers: &[u32],
+    vertex: u32,
+    nears: &[Near],
     queue: &mut Queue,
 ) -> Result<(), NoMemory>
-    requires net { IsNetwork net.now }
-    requires held { AreHeld net.now flow.now far.now hops.now stale.now }
-    requires pins { All (λ number. number / 2 < length net.now.pins) numbers.now }
-    ensures { OnOk result (AreAdded (offers_of (standing far.now hops.now) stale.now (ways_by net.now flow.now numbers.now)) (waiting queue.old) (waiting queue.new)) }
+    requires { All (IsOfferedBy flow.now far.now hops.now vertex) nears.now }
+    ensures { OnOk result (AreAdded (offers_of (standing far.now hops.now) stale.now (ways_by vertex flow.now nears.now)) (waiting queue.old) (waiting queue.new)) }
 {
-    for number in numbers {
-        push_over(net, flow, far, hops, stale, *number, queue)?;
+    for near in nears {
+        push_over(flow, far, hops, stale, vertex, *near, queue)?;
     }
     Ok(())
 }
@@ -139,13 +119,13 @@ fn push_all(
     requires incidence { AreIncidences net.now incidence.now }
     requires held { AreHeld net.now flow.now labels.now.far labels.now.hops stale.now }
     requires vertices { All (λ vertex. vertex < vertex_count net.now) vertices.now }
-    ensures { OnOk result (AreAdded (flat_map (λ vertex. offers_of (standing labels.now.far labels.now.hops) stale.now (ways_by net.now flow.now (numbers_at net.now vertex))) vertices.now) (waiting queue.old) (waiting queue.new)) }
+    ensures { OnOk result (AreAdded (flat_map (λ vertex. offers_of (standing labels.now.far labels.now.hops) stale.now (ways_near net.now flow.now vertex)) vertices.now) (waiting queue.old) (waiting queue.new)) }
 {
     let far = labels.far.as_slice();
     let hops = labels.hops.as_slice();
     for vertex in vertices {
-        let numbers = incidence.at(*vertex);
-        push_from(net, flow, far, hops, stale, numbers, queue)?;
+        let nears = incidence.at(*vertex);
+        push_from(flow, far, hops, stale, *vertex, nears, queue)?;
     }
     Ok(())
 }
@@ -228,11 +208,11 @@ fn put_right(
         let vertex = offer.vertex;
         accept(far.as_mut_slice(), hops.as_mut_slice(), stale, offer);
         push_from(
-            net,
             flow,
             far.as_slice(),
             hops.as_slice(),
             stale,
+            vertex,
             incidence.at(vertex),
             queue,
         )?;

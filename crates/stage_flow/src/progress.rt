@@ -79,7 +79,7 @@ impl Progress {
         let labels = find_labels(alloc, net, &self.incidence, &self.flow, &self.potentials)?;
         let potentials = negated(alloc, labels.far.as_slice())?;
         let from = sender(net, self.sent);
-        let mut room = PathRoom::new(alloc);
+        let mut room = PathRoom::new(alloc, net)?;
         send(
             alloc,
             net,

@@ -6,8 +6,8 @@
 
 ghost use Rattle.std.specs.Prelude.{◌≡◌, ◌<◌, ◌/◌, ◌^◌, ℕ, true, All, IsTrue, length, OnOk, IfOk};
 ghost use Rattle.stage_flow.specs.Residual.{ways_on, ways_of, vertex_count};
-ghost use Rattle.stage_flow.specs.Given.{IsNetwork, AreIncidences, at_vertex, count_at};
-ghost use Rattle.stage_flow.specs.Sending.{way_of, arc_at, ways_by, AreRead};
+ghost use Rattle.stage_flow.specs.Given.{IsNetwork, AreIncidences, at_vertex, count_at, near_arc};
+ghost use Rattle.stage_flow.specs.Sending.{ways_by, IsRead, AreRead};
 ghost use Rattle.stage_flow.specs.Passes.{mark_at};
 ghost use Rattle.stage_flow.specs.Staleness.{AreKept};
 ghost use Rattle.stage_flow.specs.Raising.{lifted, AreTracked, AreAtRest, StaysFitting, MayRise, AreKeptBut};
@@ -15,7 +15,7 @@ ghost use Rattle.stage_flow.specs.Raising.{lifted, AreTracked, AreAtRest, StaysF
 use crate::heights::{ABOVE_ALL, Room, is_level, search};
 use crate::incidence::Incidence;
 use crate::search::Labels;
-use crate::ways::{Step, step_at, units_at};
+use crate::ways::{Near, is_there, step_out};
 use flow_net::{Flow, Net};
 use net_base::{List, NoMemory};
 
@@ -29,71 +29,44 @@ fn raised(hops: &[u32], heights: &[u32], floor: u32, vertex: u32) -> u64
     u64::from(hops[vertex]) + u64::from(heights[vertex].saturating_sub(floor))
 }
 
-// Whether a residual arc that fits labels still does once they are raised, if it leaves a vertex.
-fn stays_fitting(labels: &Labels, heights: &[u32], floor: u32, vertex: u32, step: Step) -> bool
-    requires far { (step.tail < length labels.now.far) × (step.head < length labels.now.far) }
-    requires hops { (step.tail < length labels.now.hops) × (step.head < length labels.now.hops) }
-    requires heights { (step.tail < length heights.now) × (step.head < length heights.now) }
-    ensures { IsTrue result → StaysFitting (at_vertex labels.now.far) (count_at labels.now.hops) heights.now floor vertex (way_of step) }
+// Whether the residual arc on an arc that leaves a vertex still fits labels once they are raised, if it did before.
+fn stays_fitting(
+    flow: &Flow,
+    labels: &Labels,
+    heights: &[u32],
+    floor: u32,
+    vertex: u32,
+    near: Near,
+) -> bool
+    requires read { IsRead flow.now labels.now.far labels.now.hops vertex near }
+    requires heights { length heights.now ≡ length labels.now.hops }
+    ensures { IsTrue result → All (StaysFitting (at_vertex labels.now.far) (count_at labels.now.hops) heights.now floor vertex) (ways_on flow.now (near_arc vertex near)) }
 {
-    if step.tail != vertex {
-        return true;
-    }
+    let step = step_out(vertex, near);
     let hops = labels.hops.as_slice();
-    // Counts of arcs lie closer together than lengths, and tell most arcs that fit.
+    // Counts of arcs lie closer together than lengths and units, and tell most arcs that fit.
     if raised(hops, heights, floor, step.tail) <= raised(hops, heights, floor, step.head) + 1 {
         return true;
     }
     // An arc that isn't level fits whatever the numbers of arcs are.
-    !is_level(labels, step)
+    !is_level(labels, step) || !is_there(flow, step)
 }
 
-// Whether the residual arcs on an arc do.
-fn stay_fitting_over(
-    net: &Net,
-    flow: &Flow,
-    labels: &Labels,
-    heights: &[u32],
-    floor: u32,
-    vertex: u32,
-    number: u32,
-) -> bool
-    requires read { AreRead net.now flow.now labels.now.far labels.now.hops }
-    requires heights { length heights.now ≡ vertex_count net.now }
-    requires pin { number / 2 < length net.now.pins }
-    ensures { IsTrue result → All (StaysFitting (at_vertex labels.now.far) (count_at labels.now.hops) heights.now floor vertex) (ways_on flow.now (arc_at net.now number)) }
-{
-    let step = step_at(net, number, false);
-    if !stays_fitting(labels, heights, floor, vertex, step) {
-        return false;
-    }
-    // A reverse leaves the head. Where that is another vertex, units needn't be read.
-    if step.head != vertex {
-        return true;
-    }
-    if units_at(flow, number) > 0 {
-        return stays_fitting(labels, heights, floor, vertex, step_at(net, number, true));
-    }
-    true
-}
-
-// Whether those of the residual arcs on these arcs do.
+// Whether those on these arcs do.
 fn stay_fitting_from(
-    net: &Net,
     flow: &Flow,
     labels: &Labels,
     heights: &[u32],
     floor: u32,
     vertex: u32,
-    numbers: &[u32],
+    nears: &[Near],
 ) -> bool
-    requires read { AreRead net.now flow.now labels.now.far labels.now.hops }
-    requires heights { length heights.now ≡ vertex_count net.now }
-    requires pins { All (λ number. number / 2 < length net.now.pins) numbers.now }
-    ensures { IsTrue result → All (StaysFitting (at_vertex labels.now.far) (count_at labels.now.hops) heights.now floor vertex) (ways_by net.now flow.now numbers.now) }
+    requires read { All (IsRead flow.now labels.now.far labels.now.hops vertex) nears.now }
+    requires heights { length heights.now ≡ length labels.now.hops }
+    ensures { IsTrue result → All (StaysFitting (at_vertex labels.now.far) (count_at labels.now.hops) heights.now floor vertex) (ways_by vertex flow.now nears.now) }
 {
-    for number in numbers {
-        if !stay_fitting_over(net, flow, labels, heights, floor, vertex, *number) {
+    for near in nears {
+        if !stays_fitting(flow, labels, heights, floor, vertex, *near) {
             return false;
         }
     }
@@ -127,8 +100,8 @@ fn may_rise(
     if raised(labels.hops.as_slice(), heights, floor, vertex) >= marks.len() as u64 {
         return false;
     }
-    let numbers = incidence.at(vertex);
-    stay_fitting_from(net, flow, labels, heights, floor, vertex, numbers)
+    let nears = incidence.at(vertex);
+    stay_fitting_from(flow, labels, heights, floor, vertex, nears)
 }
 
 // Whether all these vertices may.

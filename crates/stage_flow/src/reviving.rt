@@ -41,8 +41,7 @@ fn is_revived(
     if !marks[vertex as usize] {
         return false;
     }
-    let numbers = incidence.at(vertex);
-    leads_away_from(net, flow, labels, marks, vertex, numbers)
+    leads_away_from(flow, labels, marks, vertex, incidence.at(vertex))
 }
 
 // The next of the vertices to be looked at that is revived.
@@ -94,7 +93,7 @@ pub(crate) fn revive(
 {
     while let Some(vertex) = next_revived(net, incidence, flow, labels, marks, pending) {
         marks[vertex as usize] = false;
-        push_tails(net, flow, labels, vertex, incidence.at(vertex), pending)?;
+        push_tails(flow, labels, vertex, incidence.at(vertex), pending)?;
     }
     Ok(())
 }

@@ -82,6 +82,8 @@ pub(crate) fn send(
     requires each { (length labels.now.far ≡ vertex_count net.now) × (length labels.now.hops ≡ vertex_count net.now) }
     requires sender { sender net.now flow.old ≡ Some from }
     requires room { All (λ (units : TheUnits). (units.forward < 2 ^ 32 - 1) × (units.back < 2 ^ 32 - 1)) flow.old.pins }
+    requires reached { length room.old.reached.marks.items ≡ vertex_count net.now }
+    ensures reached { length room.new.reached.marks.items ≡ vertex_count net.now }
     ensures ok { OnOk result (flow.new ≡ after_round net.now flow.old) }
     ensures path { OnOk result (map way_of room.new.path.items ≡ path_of net.now flow.old (Some from)) }
     ensures err { OnErr result (flow.new ≡ flow.old) }

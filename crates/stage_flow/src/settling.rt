@@ -152,8 +152,8 @@ impl Keys {
                 break;
             };
             if self.settle(vertex as usize) && (vertex as usize) < incidence.len() {
-                for number in incidence.at(vertex) {
-                    if let Some(arc) = arc_at(net, flow, *number) {
+                for near in incidence.at(vertex) {
+                    if let Some(arc) = arc_at(net, flow, near.code / 2) {
                         self.relax(potentials, vertex as usize, arc)?;
                     }
                 }

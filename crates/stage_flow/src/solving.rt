@@ -52,6 +52,7 @@ fn make_rounds(
     requires flow { flow.old ≡ flow_after net.now 0 }
     requires labels { AreLabels net.now flow.old (at_vertex first.far) (count_at first.hops) }
     requires each { (length first.far ≡ vertex_count net.now) × (length first.hops ≡ vertex_count net.now) }
+    requires room { length room.old.reached.marks.items ≡ vertex_count net.now }
     requires order { IsInOrder net.now mender.old }
     requires none { (vertex : ℕ) → mark_at mender.old.marks.items vertex ≡ false }
     ensures flow { OnOk result (flow.new ≡ rounds_of net.now) }
@@ -106,7 +107,7 @@ fn all_rounds(alloc: Global, net: &Net, incidence: &Incidence) -> Result<Rounds,
         return Ok(Rounds { flow, potentials });
     }
     let first = find_labels(alloc, net, incidence, &flow, &potentials)?;
-    let mut room = PathRoom::new(alloc);
+    let mut room = PathRoom::new(alloc, net)?;
     let mut mender = Mender::new(alloc, net)?;
     let potentials = make_rounds(
         alloc,

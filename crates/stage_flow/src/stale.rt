@@ -9,8 +9,8 @@ ghost use Rattle.std.specs.Prelude.{◌≡◌, ◌<◌, ◌/◌, ◌++◌, ◌==
 ghost use Rattle.stage_flow.specs.Residual.{ways_on, ways_of, vertex_count};
 ghost use Rattle.stage_flow.specs.Rounds.{is_wanting};
 ghost use Rattle.stage_flow.specs.LawsOfWalks.{IsFitting};
-ghost use Rattle.stage_flow.specs.Given.{AreIncidences, at_vertex, count_at};
-ghost use Rattle.stage_flow.specs.Sending.{way_of, arc_at, ways_by, AreRead};
+ghost use Rattle.stage_flow.specs.Given.{AreIncidences, at_vertex, count_at, near_arc};
+ghost use Rattle.stage_flow.specs.Sending.{ways_by, IsRead, AreRead};
 ghost use Rattle.stage_flow.specs.Passes.{mark_at};
 ghost use Rattle.stage_flow.specs.Mending.{IsSound, AreMarked};
 ghost use Rattle.stage_flow.specs.Staleness.{SayWhoWaits, LeadsAway, NoneLeadsAway, leads_to, tails_of, AreSpread};
@@ -18,65 +18,38 @@ ghost use Rattle.stage_flow.specs.Staleness.{SayWhoWaits, LeadsAway, NoneLeadsAw
 use crate::incidence::Incidence;
 use crate::offers::is_marked;
 use crate::search::Labels;
-use crate::ways::{Step, is_tight, step_at, units_at};
+use crate::ways::{Near, is_there, is_tight, step_in, step_out};
 use flow_net::{Flow, Net};
 use net_base::NoMemory;
 
-// Whether a residual arc is tight and leads on from a vertex to one that isn't marked.
-fn leads_away(labels: &Labels, marks: &[bool], vertex: u32, step: Step) -> bool
-    requires far { (step.tail < length labels.now.far) × (step.head < length labels.now.far) }
-    requires hops { (step.tail < length labels.now.hops) × (step.head < length labels.now.hops) }
-    requires marks { step.head < length marks.now }
-    ensures away { IsTrue result → LeadsAway (at_vertex labels.now.far) (count_at labels.now.hops) marks.now vertex (way_of step) }
-    ensures none { result ≡ false → LeadsAway (at_vertex labels.now.far) (count_at labels.now.hops) marks.now vertex (way_of step) → ⊥ }
+// Whether the residual arc on an arc that leaves a vertex is tight, and leads on to one that isn't marked.
+fn leads_away(flow: &Flow, labels: &Labels, marks: &[bool], vertex: u32, near: Near) -> bool
+    requires read { IsRead flow.now labels.now.far labels.now.hops vertex near }
+    ensures away { IsTrue result → Any (LeadsAway (at_vertex labels.now.far) (count_at labels.now.hops) marks.now vertex) (ways_on flow.now (near_arc vertex near)) }
+    ensures none { result ≡ false → NoneLeadsAway (at_vertex labels.now.far) (count_at labels.now.hops) marks.now vertex (ways_on flow.now (near_arc vertex near)) }
 {
-    step.tail == vertex && !marks[step.head as usize] && is_tight(labels, step)
-}
-
-// Whether one of the residual arcs on an arc does.
-fn leads_away_over(
-    net: &Net,
-    flow: &Flow,
-    labels: &Labels,
-    marks: &[bool],
-    vertex: u32,
-    number: u32,
-) -> bool
-    requires read { AreRead net.now flow.now labels.now.far labels.now.hops }
-    requires marks { length marks.now ≡ vertex_count net.now }
-    requires pin { number / 2 < length net.now.pins }
-    ensures away { IsTrue result → Any (LeadsAway (at_vertex labels.now.far) (count_at labels.now.hops) marks.now vertex) (ways_on flow.now (arc_at net.now number)) }
-    ensures none { result ≡ false → NoneLeadsAway (at_vertex labels.now.far) (count_at labels.now.hops) marks.now vertex (ways_on flow.now (arc_at net.now number)) }
-{
-    let step = step_at(net, number, false);
-    // Where the arc itself leaves the vertex, its reverse enters it, and units needn't be read.
-    if step.tail == vertex {
-        return leads_away(labels, marks, vertex, step);
-    }
-    // Nor where its reverse leads to a vertex that is marked.
-    if is_marked(marks, step.tail) {
+    let step = step_out(vertex, near);
+    if is_marked(marks, step.head) {
         return false;
     }
-    units_at(flow, number) > 0 && leads_away(labels, marks, vertex, step_at(net, number, true))
+    // Units lie farther apart than labels, and are read last.
+    is_tight(labels, step) && is_there(flow, step)
 }
 
-/// Whether one of the residual arcs on these arcs does.
+/// Whether one of the residual arcs on these arcs that leave a vertex is tight, and leads on to one that isn't marked.
 pub(crate) fn leads_away_from(
-    net: &Net,
     flow: &Flow,
     labels: &Labels,
     marks: &[bool],
     vertex: u32,
-    numbers: &[u32],
+    nears: &[Near],
 ) -> bool
-    requires read { AreRead net.now flow.now labels.now.far labels.now.hops }
-    requires marks { length marks.now ≡ vertex_count net.now }
-    requires pins { All (λ number. number / 2 < length net.now.pins) numbers.now }
-    ensures away { IsTrue result → Any (LeadsAway (at_vertex labels.now.far) (count_at labels.now.hops) marks.now vertex) (ways_by net.now flow.now numbers.now) }
-    ensures none { result ≡ false → NoneLeadsAway (at_vertex labels.now.far) (count_at labels.now.hops) marks.now vertex (ways_by net.now flow.now numbers.now) }
+    requires read { All (IsRead flow.now labels.now.far labels.now.hops vertex) nears.now }
+    ensures away { IsTrue result → Any (LeadsAway (at_vertex labels.now.far) (count_at labels.now.hops) marks.now vertex) (ways_by vertex flow.now nears.now) }
+    ensures none { result ≡ false → NoneLeadsAway (at_vertex labels.now.far) (count_at labels.now.hops) marks.now vertex (ways_by vertex flow.now nears.now) }
 {
-    for number in numbers {
-        if leads_away_over(net, flow, labels, marks, vertex, *number) {
+    for near in nears {
+        if leads_away(flow, labels, marks, vertex, *near) {
             return true;
         }
     }
@@ -114,7 +87,7 @@ fn is_sound(
     if waits(labels, served, vertex) {
         return true;
     }
-    leads_away_from(net, flow, labels, marks, vertex, incidence.at(vertex))
+    leads_away_from(flow, labels, marks, vertex, incidence.at(vertex))
 }
 
 // Whether a vertex is stale, and isn't marked yet.
@@ -169,63 +142,37 @@ fn next_stale(
     None
 }
 
-// Adds the tail of a residual arc to those to be looked at, if it is tight and leads to a vertex.
+// Adds the tail of the residual arc on an arc that enters a vertex to those to be looked at, if it is tight.
 fn push_tail(
+    flow: &Flow,
     labels: &Labels,
     vertex: u32,
-    step: Step,
+    near: Near,
     pending: &mut Vec<u32>,
 ) -> Result<(), NoMemory>
-    requires far { (step.tail < length labels.now.far) × (step.head < length labels.now.far) }
-    requires hops { (step.tail < length labels.now.hops) × (step.head < length labels.now.hops) }
-    ensures { OnOk result (pending.new.items ≡ pending.old.items ++ tails_of (at_vertex labels.now.far) (count_at labels.now.hops) vertex (way_of step ∷ [])) }
+    requires read { IsRead flow.now labels.now.far labels.now.hops vertex near }
+    ensures { OnOk result (pending.new.items ≡ pending.old.items ++ tails_of (at_vertex labels.now.far) (count_at labels.now.hops) vertex (ways_on flow.now (near_arc vertex near))) }
 {
-    if step.head == vertex && is_tight(labels, step) {
+    let step = step_in(vertex, near);
+    if is_tight(labels, step) && is_there(flow, step) {
         pending.push(step.tail)?;
     }
     Ok(())
 }
 
-// Adds the tails of those of the residual arcs on an arc.
-fn push_tails_over(
-    net: &Net,
-    flow: &Flow,
-    labels: &Labels,
-    vertex: u32,
-    number: u32,
-    pending: &mut Vec<u32>,
-) -> Result<(), NoMemory>
-    requires read { AreRead net.now flow.now labels.now.far labels.now.hops }
-    requires pin { number / 2 < length net.now.pins }
-    ensures { OnOk result (pending.new.items ≡ pending.old.items ++ tails_of (at_vertex labels.now.far) (count_at labels.now.hops) vertex (ways_on flow.now (arc_at net.now number))) }
-{
-    let step = step_at(net, number, false);
-    push_tail(labels, vertex, step, pending)?;
-    // A reverse enters the tail. Where that is another vertex, units needn't be read.
-    if step.tail != vertex {
-        return Ok(());
-    }
-    if units_at(flow, number) > 0 {
-        push_tail(labels, vertex, step_at(net, number, true), pending)?;
-    }
-    Ok(())
-}
-
-/// Adds the tails of those of the residual arcs on these arcs.
+/// Adds the tails of the tight residual arcs on these arcs that enter a vertex.
 pub(crate) fn push_tails(
-    net: &Net,
     flow: &Flow,
     labels: &Labels,
     vertex: u32,
-    numbers: &[u32],
+    nears: &[Near],
     pending: &mut Vec<u32>,
 ) -> Result<(), NoMemory>
-    requires read { AreRead net.now flow.now labels.now.far labels.now.hops }
-    requires pins { All (λ number. number / 2 < length net.now.pins) numbers.now }
-    ensures { OnOk result (pending.new.items ≡ pending.old.items ++ tails_of (at_vertex labels.now.far) (count_at labels.now.hops) vertex (ways_by net.now flow.now numbers.now)) }
+    requires read { All (IsRead flow.now labels.now.far labels.now.hops vertex) nears.now }
+    ensures { OnOk result (pending.new.items ≡ pending.old.items ++ tails_of (at_vertex labels.now.far) (count_at labels.now.hops) vertex (ways_by vertex flow.now nears.now)) }
 {
-    for number in numbers {
-        push_tails_over(net, flow, labels, vertex, *number, pending)?;
+    for near in nears {
+        push_tail(flow, labels, vertex, *near, pending)?;
     }
     Ok(())
 }
@@ -253,7 +200,7 @@ pub(crate) fn spread(
     while let Some(vertex) = next_stale(net, incidence, flow, labels, marks, served, pending) {
         marks[vertex as usize] = true;
         vertices.push(vertex)?;
-        push_tails(net, flow, labels, vertex, incidence.at(vertex), pending)?;
+        push_tails(flow, labels, vertex, incidence.at(vertex), pending)?;
     }
     Ok(())
 }

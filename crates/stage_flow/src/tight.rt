@@ -6,86 +6,63 @@
 //! lowest arc between the two. Only arcs at vertices that were reached are looked at. Marked vertices are stale, and dead: no tight
 //! arc leads on from them to a mirror that wants, so they are passed over.
 
-ghost use Rattle.std.specs.Prelude.{◌≡◌, ◌≤◌, ◌<◌, ◌-◌, ◌/◌, ◌^◌, ◌⊎◌, ℕ, false, [], ◌∷◌, nat_eq, All, Contains, length, map, OnOk, Some, None};
+ghost use Rattle.std.specs.Prelude.{◌≡◌, ◌≤◌, ◌<◌, ◌-◌, ◌^◌, ◌⊎◌, ℕ, true, false, [], ◌∷◌, nat_eq, All, Contains, length, map, IfOk, OnOk, Some, None};
 ghost use Rattle.std.specs.Option.{option_map};
 ghost use Rattle.indexmap.specs.IndexSet.{insert_all};
-ghost use Rattle.net_base.specs.Keys.{is_among};
 ghost use Rattle.stage_flow.specs.Residual.{ways_on, vertex_count};
-ghost use Rattle.stage_flow.specs.Rounds.{path_of};
+ghost use Rattle.stage_flow.specs.Rounds.{path_of, or_lesser};
 ghost use Rattle.stage_flow.specs.Passes.{mark_at};
 ghost use Rattle.stage_flow.specs.Staleness.{AreDead, AreKept};
-ghost use Rattle.stage_flow.specs.Given.{AreIncidences, at_vertex, count_at};
-ghost use Rattle.stage_flow.specs.Sending.{way_of, arc_at, ways_by, AreRead, AreReached, heads_of, comes_last, least_by};
+ghost use Rattle.stage_flow.specs.Given.{AreIncidences, at_vertex, count_at, near_arc};
+ghost use Rattle.stage_flow.specs.Sending.{way_of, ways_by, IsRead, AreRead, AreReached, heads_of, comes_last, least_by};
 
 use crate::incidence::Incidence;
 use crate::offers::is_marked;
+use crate::reached::Reached;
 use crate::search::Labels;
-use crate::ways::{Step, is_tight, step_at, units_at};
+use crate::ways::{Near, Step, is_there, is_tight, step_in, step_out};
 use flow_net::{Flow, Net};
-use indexmap::IndexSet;
 use net_base::NoMemory;
 use std::alloc::Global;
 
-// Adds the head of a residual arc to what was reached, if the arc is tight and leaves a vertex, and the head isn't marked.
-fn reach_by(
-    labels: &Labels,
-    marks: &[bool],
-    vertex: u32,
-    step: Step,
-    reached: &mut IndexSet<u32>,
-) -> Result<(), NoMemory>
-    requires far { (step.tail < length labels.now.far) × (step.head < length labels.now.far) }
-    requires hops { (step.tail < length labels.now.hops) × (step.head < length labels.now.hops) }
-    ensures { OnOk result (reached.new.keys ≡ insert_all nat_eq reached.old.keys (heads_of (at_vertex labels.now.far) (count_at labels.now.hops) marks.now vertex (way_of step ∷ []))) }
-{
-    if step.tail == vertex && !is_marked(marks, step.head) && is_tight(labels, step) {
-        reached.insert(step.head)?;
-    }
-    Ok(())
-}
-
-// Adds the unmarked heads of the tight residual arcs on an arc that leave a vertex.
+// Adds the head of the residual arc on an arc that leaves a vertex to what was reached, if it is tight, and the head isn't marked.
 fn reach_over(
-    net: &Net,
     flow: &Flow,
     labels: &Labels,
     marks: &[bool],
     vertex: u32,
-    number: u32,
-    reached: &mut IndexSet<u32>,
+    near: Near,
+    reached: &mut Reached,
 ) -> Result<(), NoMemory>
-    requires read { AreRead net.now flow.now labels.now.far labels.now.hops }
-    requires pin { number / 2 < length net.now.pins }
-    ensures { OnOk result (reached.new.keys ≡ insert_all nat_eq reached.old.keys (heads_of (at_vertex labels.now.far) (count_at labels.now.hops) marks.now vertex (ways_on flow.now (arc_at net.now number)))) }
+    requires read { IsRead flow.now labels.now.far labels.now.hops vertex near }
+    requires among { near.other < length reached.old.marks.items }
+    ensures each { length reached.new.marks.items ≡ length reached.old.marks.items }
+    ensures keys { OnOk result (reached.new.keys.items ≡ insert_all nat_eq reached.old.keys.items (heads_of (at_vertex labels.now.far) (count_at labels.now.hops) marks.now vertex (ways_on flow.now (near_arc vertex near)))) }
 {
-    let step = step_at(net, number, false);
-    reach_by(labels, marks, vertex, step, reached)?;
-    // A reverse leaves the head. Where that is another vertex, units needn't be read.
-    if step.head != vertex {
-        return Ok(());
-    }
-    if units_at(flow, number) > 0 {
-        reach_by(labels, marks, vertex, step_at(net, number, true), reached)?;
+    let step = step_out(vertex, near);
+    // Units lie farther apart than labels, and are read last.
+    if !is_marked(marks, step.head) && is_tight(labels, step) && is_there(flow, step) {
+        reached.insert(step.head)?;
     }
     Ok(())
 }
 
 // Adds the unmarked heads of the tight residual arcs on these arcs that leave a vertex.
 fn reach_from(
-    net: &Net,
     flow: &Flow,
     labels: &Labels,
     marks: &[bool],
     vertex: u32,
-    numbers: &[u32],
-    reached: &mut IndexSet<u32>,
+    nears: &[Near],
+    reached: &mut Reached,
 ) -> Result<(), NoMemory>
-    requires read { AreRead net.now flow.now labels.now.far labels.now.hops }
-    requires pins { All (λ number. number / 2 < length net.now.pins) numbers.now }
-    ensures { OnOk result (reached.new.keys ≡ insert_all nat_eq reached.old.keys (heads_of (at_vertex labels.now.far) (count_at labels.now.hops) marks.now vertex (ways_by net.now flow.now numbers.now))) }
+    requires read { All (IsRead flow.now labels.now.far labels.now.hops vertex) nears.now }
+    requires among { length labels.now.hops ≡ length reached.old.marks.items }
+    ensures each { length reached.new.marks.items ≡ length reached.old.marks.items }
+    ensures keys { OnOk result (reached.new.keys.items ≡ insert_all nat_eq reached.old.keys.items (heads_of (at_vertex labels.now.far) (count_at labels.now.hops) marks.now vertex (ways_by vertex flow.now nears.now))) }
 {
-    for number in numbers {
-        reach_over(net, flow, labels, marks, vertex, *number, reached)?;
+    for near in nears {
+        reach_over(flow, labels, marks, vertex, *near, reached)?;
     }
     Ok(())
 }
@@ -98,48 +75,31 @@ fn reach_all(
     labels: &Labels,
     marks: &[bool],
     from: u32,
-    reached: &mut IndexSet<u32>,
+    reached: &mut Reached,
 ) -> Result<(), NoMemory>
     requires read { AreRead net.now flow.now labels.now.far labels.now.hops }
     requires incidence { AreIncidences net.now incidence.now }
     requires dead { AreDead net.now flow.now (at_vertex labels.now.far) (count_at labels.now.hops) marks.now }
     requires vertex { from < vertex_count net.now }
     requires fresh { mark_at marks.now from ≡ false }
-    requires alone { reached.old.keys ≡ from ∷ [] }
-    ensures { OnOk result (AreReached net.now flow.now (at_vertex labels.now.far) (count_at labels.now.hops) marks.now from reached.new.keys) }
+    requires alone { reached.old.keys.items ≡ from ∷ [] }
+    requires among { length reached.old.marks.items ≡ vertex_count net.now }
+    ensures each { length reached.new.marks.items ≡ length reached.old.marks.items }
+    ensures reached { OnOk result (AreReached net.now flow.now (at_vertex labels.now.far) (count_at labels.now.hops) marks.now from reached.new.keys.items) }
 {
     let mut next = 0;
     while next < reached.len() {
         let vertex = reached.as_slice()[next];
-        reach_from(
-            net,
-            flow,
-            labels,
-            marks,
-            vertex,
-            incidence.at(vertex),
-            reached,
-        )?;
+        reach_from(flow, labels, marks, vertex, incidence.at(vertex), reached)?;
         next += 1;
     }
     Ok(())
 }
 
-// The lesser of what was found and a residual arc, if that is tight, enters a vertex, and comes from what was reached.
-fn lesser_by(
-    labels: &Labels,
-    reached: &IndexSet<u32>,
-    vertex: u32,
-    step: Step,
-    found: Option<Step>,
-) -> Option<Step>
-    requires far { (step.tail < length labels.now.far) × (step.head < length labels.now.far) }
-    requires hops { (step.tail < length labels.now.hops) × (step.head < length labels.now.hops) }
-    ensures { option_map way_of result ≡ least_by (comes_last (at_vertex labels.now.far) (count_at labels.now.hops) reached.now.keys vertex) (option_map way_of found) (way_of step ∷ []) }
+// The lesser of a residual arc and what was found.
+fn lesser_of(step: Step, found: Option<Step>) -> Option<Step>
+    ensures { option_map way_of result ≡ or_lesser true (way_of step) (option_map way_of found) }
 {
-    if step.head != vertex || !is_tight(labels, step) || !reached.contains(&step.tail) {
-        return found;
-    }
     match found {
         None => Some(step),
         Some(old) => {
@@ -152,28 +112,21 @@ fn lesser_by(
     }
 }
 
-// The least of what was found and of the residual arcs on an arc that are tight, enter a vertex, and come from what was reached.
+// The lesser of what was found and the residual arc on an arc that enters a vertex, if it is tight and comes from what was reached.
 fn least_over(
-    net: &Net,
     flow: &Flow,
     labels: &Labels,
-    reached: &IndexSet<u32>,
+    reached: &Reached,
     vertex: u32,
-    number: u32,
+    near: Near,
     found: Option<Step>,
 ) -> Option<Step>
-    requires read { AreRead net.now flow.now labels.now.far labels.now.hops }
-    requires pin { number / 2 < length net.now.pins }
-    ensures { option_map way_of result ≡ least_by (comes_last (at_vertex labels.now.far) (count_at labels.now.hops) reached.now.keys vertex) (option_map way_of found) (ways_on flow.now (arc_at net.now number)) }
+    requires read { IsRead flow.now labels.now.far labels.now.hops vertex near }
+    ensures { option_map way_of result ≡ least_by (comes_last (at_vertex labels.now.far) (count_at labels.now.hops) reached.now.keys.items vertex) (option_map way_of found) (ways_on flow.now (near_arc vertex near)) }
 {
-    let step = step_at(net, number, false);
-    let found = lesser_by(labels, reached, vertex, step, found);
-    // A reverse enters the tail. Where that is another vertex, units needn't be read.
-    if step.tail != vertex {
-        return found;
-    }
-    if units_at(flow, number) > 0 {
-        lesser_by(labels, reached, vertex, step_at(net, number, true), found)
+    let step = step_in(vertex, near);
+    if is_tight(labels, step) && reached.contains(step.tail) && is_there(flow, step) {
+        lesser_of(step, found)
     } else {
         found
     }
@@ -181,20 +134,18 @@ fn least_over(
 
 // The least of the residual arcs on these arcs that are tight, enter a vertex, and come from what was reached.
 fn least_into(
-    net: &Net,
     flow: &Flow,
     labels: &Labels,
-    reached: &IndexSet<u32>,
+    reached: &Reached,
     vertex: u32,
-    numbers: &[u32],
+    nears: &[Near],
 ) -> Option<Step>
-    requires read { AreRead net.now flow.now labels.now.far labels.now.hops }
-    requires pins { All (λ number. number / 2 < length net.now.pins) numbers.now }
-    ensures { option_map way_of result ≡ least_by (comes_last (at_vertex labels.now.far) (count_at labels.now.hops) reached.now.keys vertex) None (ways_by net.now flow.now numbers.now) }
+    requires read { All (IsRead flow.now labels.now.far labels.now.hops vertex) nears.now }
+    ensures { option_map way_of result ≡ least_by (comes_last (at_vertex labels.now.far) (count_at labels.now.hops) reached.now.keys.items vertex) None (ways_by vertex flow.now nears.now) }
 {
     let mut found = None;
-    for number in numbers {
-        found = least_over(net, flow, labels, reached, vertex, *number, found);
+    for near in nears {
+        found = least_over(flow, labels, reached, vertex, *near, found);
     }
     found
 }
@@ -221,7 +172,7 @@ fn read_path(
     flow: &Flow,
     labels: &Labels,
     marks: &[bool],
-    reached: &IndexSet<u32>,
+    reached: &Reached,
     from: u32,
     path: &mut Vec<Step>,
 ) -> Result<(), NoMemory>
@@ -230,14 +181,14 @@ fn read_path(
     requires kept { AreKept net.now flow.now (at_vertex labels.now.far) (count_at labels.now.hops) marks.now }
     requires vertex { from < vertex_count net.now }
     requires fresh { mark_at marks.now from ≡ false }
-    requires reached { AreReached net.now flow.now (at_vertex labels.now.far) (count_at labels.now.hops) marks.now from reached.now.keys }
+    requires reached { AreReached net.now flow.now (at_vertex labels.now.far) (count_at labels.now.hops) marks.now from reached.now.keys.items }
     requires empty { path.old.items ≡ [] }
     ensures { OnOk result (map way_of path.new.items ≡ path_of net.now flow.now (Some from)) }
 {
     let mut vertex = least_end(labels.hops.as_slice(), reached.as_slice());
     let mut left = *labels.hops.get(from as usize);
     while left > 0 {
-        let Some(step) = least_into(net, flow, labels, reached, vertex, incidence.at(vertex)) else {
+        let Some(step) = least_into(flow, labels, reached, vertex, incidence.at(vertex)) else {
             unreachable!()
         };
         path.push(step)?;
@@ -251,19 +202,21 @@ fn read_path(
 /// Room in which paths are found, used anew in each round.
 #[derive(Drop)]
 pub(crate) struct PathRoom {
-    // What tight arcs reach from the sender.
-    reached: IndexSet<u32>,
+    /// What tight arcs reach from the sender.
+    pub(crate) reached: Reached,
     /// The path that was found last.
     pub(crate) path: Vec<Step>,
 }
 
 impl PathRoom {
     /// Nothing was reached, and no path was found.
-    pub(crate) fn new(alloc: Global) -> PathRoom {
-        PathRoom {
-            reached: IndexSet::new(alloc),
+    pub(crate) fn new(alloc: Global, net: &Net) -> Result<PathRoom, NoMemory>
+        ensures { IfOk result (λ room. length room.reached.marks.items ≡ vertex_count net.now) }
+    {
+        Ok(PathRoom {
+            reached: Reached::new(alloc, net)?,
             path: Vec::new(alloc),
-        }
+        })
     }
 }
 
@@ -282,7 +235,9 @@ pub(crate) fn find_path(
     requires kept { AreKept net.now flow.now (at_vertex labels.now.far) (count_at labels.now.hops) marks.now }
     requires vertex { from < vertex_count net.now }
     requires fresh { mark_at marks.now from ≡ false }
-    ensures { OnOk result (map way_of room.new.path.items ≡ path_of net.now flow.now (Some from)) }
+    requires room { length room.old.reached.marks.items ≡ vertex_count net.now }
+    ensures path { OnOk result (map way_of room.new.path.items ≡ path_of net.now flow.now (Some from)) }
+    ensures room { length room.new.reached.marks.items ≡ vertex_count net.now }
 {
     room.reached.clear();
     room.reached.insert(from)?;

@@ -1,15 +1,14 @@
-//! Residual arcs, read off the pins by the numbers of their arcs.
+//! Residual arcs, read off the rows of arcs at their vertices.
 
-ghost use Rattle.std.specs.Prelude.{◌≡◌, ◌<◌, ◌+◌, ◌+ℤ◌, ◌-ℤ◌, ◌≤ℤ◌, pos, ◌/◌, ◌^◌, ◌↔◌, IsTrue, length, slice_index};
+ghost use Rattle.std.specs.Prelude.{◌≡◌, ◌<◌, ◌+◌, ◌+ℤ◌, ◌/◌, ◌↔◌, IsTrue, length, slice_index};
 ghost use Rattle.std.specs.List.{flat_map};
 ghost use Rattle.flow_net.specs.Flows.{pin_units};
-ghost use Rattle.stage_flow.specs.Residual.{vertex_count};
-ghost use Rattle.stage_flow.specs.LawsOfWalks.{EndsAreVertices, IsTight};
+ghost use Rattle.stage_flow.specs.LawsOfWalks.{IsTight};
 ghost use Rattle.stage_flow.specs.Given.{at_vertex, count_at};
-ghost use Rattle.stage_flow.specs.Sending.{way_of, arc_at, residual, AreRead};
+ghost use Rattle.stage_flow.specs.Sending.{way_of, way_out, way_in, length_by, is_residual};
 
 use crate::search::Labels;
-use flow_net::{Flow, Net, Pin};
+use flow_net::Flow;
 
 /// A residual arc: where one more unit may go.
 #[derive(Clone, Copy, Debug)]
@@ -26,50 +25,50 @@ pub(crate) struct Step {
     pub takes: bool,
 }
 
-// A residual arc that adds a unit to an arc from a tail to a head, or takes one back.
-fn step_between(tail: u32, head: u32, length: i64, number: u32, takes: bool) -> Step
-    requires low { (pos 0 -ℤ pos (2 ^ 32)) ≤ℤ length }
-    requires high { length ≤ℤ pos (2 ^ 32) }
-    ensures { way_of result ≡ residual takes (record { tail = tail; head = head; length = length; number = number }) }
+/// An arc at a vertex, as the vertex' row has it.
+#[derive(Clone, Copy, Debug)]
+pub(crate) struct Near {
+    /// The vertex at the other end. Arcs lead from the lesser of two vertices to the greater.
+    pub other: u32,
+    /// The number of the arc, doubled, and the weight of its pin, which is 0 or 1.
+    pub code: u32,
+}
+
+// The length of the residual arc on an arc that adds a unit to it, or takes one back.
+fn length_of(near: Near, takes: bool) -> i64
+    ensures { result ≡ length_by takes near }
 {
-    if takes {
-        Step {
-            tail: head,
-            head: tail,
-            length: 0 - length,
-            number,
-            takes,
-        }
-    } else {
-        Step {
-            tail,
-            head,
-            length,
-            number,
-            takes,
-        }
+    let weight = i64::from(near.code % 2);
+    let is_back = near.code / 2 % 2 != 0;
+    if is_back == takes { weight } else { 0 - weight }
+}
+
+/// The residual arc on an arc at a vertex that leaves the vertex.
+pub(crate) fn step_out(vertex: u32, near: Near) -> Step
+    ensures { way_of result ≡ way_out vertex near }
+{
+    let takes = near.other < vertex;
+    Step {
+        tail: vertex,
+        head: near.other,
+        length: length_of(near, takes),
+        number: near.code / 2,
+        takes,
     }
 }
 
-/// The residual arc on the arc with a number that adds a unit to it, or takes one back.
-pub(crate) fn step_at(net: &Net, number: u32, takes: bool) -> Step
-    requires pin { number / 2 < length net.now.pins }
-    requires few { vertex_count net.now < 2 ^ 32 }
-    requires ends { EndsAreVertices net.now }
-    ensures { way_of result ≡ residual takes (arc_at net.now number) }
+/// The residual arc on an arc at a vertex that enters the vertex.
+pub(crate) fn step_in(vertex: u32, near: Near) -> Step
+    ensures { way_of result ≡ way_in vertex near }
 {
-    let Pin {
-        driver,
-        from,
-        to,
-        weight,
-    } = *net.pins.get((number / 2) as usize);
-    let weight = i64::from(weight);
-    if number % 2 == 0 {
-        return step_between(from, to, weight, number, takes);
+    let takes = near.other >= vertex;
+    Step {
+        tail: near.other,
+        head: vertex,
+        length: length_of(near, takes),
+        number: near.code / 2,
+        takes,
     }
-    let mirror = net.gates + 2 + driver;
-    step_between(to, mirror, 0 - weight, number, takes)
 }
 
 /// The units on the arc with a number.
@@ -83,6 +82,14 @@ pub(crate) fn units_at(flow: &Flow, number: u32) -> u32
     } else {
         units.back
     }
+}
+
+/// Whether a residual arc is there: what takes a unit back needs one.
+pub(crate) fn is_there(flow: &Flow, step: Step) -> bool
+    requires { step.number / 2 < length flow.now.pins }
+    ensures { result ≡ is_residual flow.now (way_of step) }
+{
+    !step.takes || units_at(flow, step.number) > 0
 }
 
 // Whether a length and a number add up to another.

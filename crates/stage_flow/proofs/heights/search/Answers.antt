@@ -1,12 +1,11 @@
-use Rattle.std.proofs.Common.{◌/◌, ◌<◌, ◌∙◌, length, All, sym, subst, arith}
+use Rattle.std.proofs.Common.{◌<◌, arith}
 use Rattle.stage_flow.specs.Residual.{vertex_count}
-use Rattle.stage_flow.proofs.SendingSearch.{numbers-low}
+use Rattle.stage_flow.proofs.SendingSearch.{row-read}
 use Rattle.stage_flow.proofs.heights.search.Goals as goal
 
-pub come_from-requires-clause-pins : goal.come_from-requires-clause-pins
-come_from-requires-clause-pins c =
-    let net = c.args.net.now in
+pub come_from-requires-clause-read : goal.come_from-requires-clause-read
+come_from-requires-clause-read c =
     let vertex = c.in-Some.vertex in
     let there = c.stands_at.ensures c.if-stands_at.true in
-    let low : vertex < vertex_count net = omega (arith, there, c.as_slice.ensures.len, c.as_slice.ensures.value, c.loop.invariant.each, c.requires.rest.each) in
-    subst (All (λ number. number / 2 < length net.pins)) (sym (c.at.ensures ∙ c.requires.incidence.at vertex low)) (numbers-low net vertex)
+    let low : vertex < vertex_count c.args.net.now = omega (arith, there, c.as_slice.ensures.len, c.as_slice.ensures.value, c.loop.invariant.each, c.requires.rest.each) in
+    row-read c.args.net.now c.args.flow.now c.args.labels.now.far c.args.labels.now.hops c.args.incidence.now vertex c.at.result.now c.requires.read c.requires.incidence low c.at.ensures

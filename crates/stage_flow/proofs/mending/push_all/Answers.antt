@@ -1,25 +1,25 @@
-use Rattle.std.proofs.Common.{◌≡◌, ◌<◌, ◌/◌, ◌∙◌, List, length, get_or, All, sym, subst, arith}
+use Rattle.std.proofs.Common.{◌≡◌, ◌<◌, ℕ, ℤ, List, All, get_or, sym, subst, arith}
 use Rattle.stage_flow.specs.declared.offers.Offer.{Offer}
 use Rattle.stage_flow.specs.Residual.{vertex_count}
-use Rattle.stage_flow.specs.Given.{numbers_at}
-use Rattle.stage_flow.specs.Sending.{ways_by}
+use Rattle.stage_flow.specs.Sending.{ways_by, ways_near}
 use Rattle.stage_flow.specs.Passes.{standing}
-use Rattle.stage_flow.specs.Mending.{AreAdded, offers_of}
+use Rattle.stage_flow.specs.Mending.{AreAdded, IsOfferedBy, offers_of}
 use Rattle.stage_flow.specs.Waiting.{waiting}
-use Rattle.stage_flow.proofs.SendingSearch.{numbers-low}
-use Rattle.stage_flow.proofs.AddedOffers.{added-more}
+use Rattle.stage_flow.proofs.SendingSearch.{row-ways}
+use Rattle.stage_flow.proofs.AddedOffers.{added-more, row-offered}
 use Rattle.stage_flow.proofs.mending.push_all.Goals as goal
 
-pub at-numbers-requires : goal.at-numbers-requires
-at-numbers-requires c =
+pub at-nears-requires : goal.at-nears-requires
+at-nears-requires c =
     omega (arith, c.requires.vertices c.loop-vertex.vertex-index 0 c.loop-vertex-test.true, c.requires.incidence.each)
 
-pub push_from-requires-clause-pins : goal.push_from-requires-clause-pins
-push_from-requires-clause-pins c =
-    let net = c.args.net.now in
+pub push_from-requires : goal.push_from-requires
+push_from-requires c =
     let vertex = get_or c.args.vertices.now c.loop-vertex.vertex-index 0 in
-    let low : vertex < vertex_count net = c.requires.vertices c.loop-vertex.vertex-index 0 c.loop-vertex-test.true in
-    subst (All (λ number. number / 2 < length net.pins)) (sym (c.at-numbers.ensures ∙ c.requires.incidence.at vertex low)) (numbers-low net vertex)
+    let low : vertex < vertex_count c.args.net.now = c.requires.vertices c.loop-vertex.vertex-index 0 c.loop-vertex-test.true in
+    let offered = row-offered c.args.net.now c.args.flow.now c.args.labels.now.far c.args.labels.now.hops c.args.stale.now c.requires.net c.requires.held c.args.incidence.now vertex c.at-nears.result.now c.requires.incidence low c.at-nears.ensures in
+    subst (λ (xs : List ℤ). All (IsOfferedBy c.args.flow.now xs c.as_slice-hops.result.now vertex) c.at-nears.result.now) (sym c.as_slice-far.ensures)
+    (subst (λ (xs : List ℕ). All (IsOfferedBy c.args.flow.now c.args.labels.now.far xs vertex) c.at-nears.result.now) (sym c.as_slice-hops.ensures) offered)
 
 pub loop-vertex-preserved : goal.loop-vertex-preserved
 loop-vertex-preserved c =
@@ -30,10 +30,10 @@ loop-vertex-preserved c =
     let stale = c.args.stale.now in
     let vertex = get_or c.args.vertices.now c.loop-vertex.vertex-index 0 in
     let low : vertex < vertex_count net = c.requires.vertices c.loop-vertex.vertex-index 0 c.loop-vertex-test.true in
-    let numbers : c.at-numbers.result.now ≡ numbers_at net vertex = c.at-numbers.ensures ∙ c.requires.incidence.at vertex low in
-    let same : offers_of (standing c.as_slice-far.result.now c.as_slice-hops.result.now) stale (ways_by net flow c.at-numbers.result.now) ≡ offers_of (standing far hops) stale (ways_by net flow (numbers_at net vertex)) =
-    λ i. offers_of (standing (c.as_slice-far.ensures i) (c.as_slice-hops.ensures i)) stale (ways_by net flow (numbers i)) in
-    added-more (λ vertex. offers_of (standing far hops) stale (ways_by net flow (numbers_at net vertex))) c.args.vertices.now c.loop-vertex.vertex-index
+    let ways : ways_by vertex flow c.at-nears.result.now ≡ ways_near net flow vertex = row-ways net flow c.args.incidence.now vertex c.at-nears.result.now c.requires.incidence low c.at-nears.ensures in
+    let same : offers_of (standing c.as_slice-far.result.now c.as_slice-hops.result.now) stale (ways_by vertex flow c.at-nears.result.now) ≡ offers_of (standing far hops) stale (ways_near net flow vertex) =
+    λ i. offers_of (standing (c.as_slice-far.ensures i) (c.as_slice-hops.ensures i)) stale (ways i) in
+    added-more (λ vertex. offers_of (standing far hops) stale (ways_near net flow vertex)) c.args.vertices.now c.loop-vertex.vertex-index 0
     (waiting c.args.queue.now) (waiting c.loop-vertex.queue) (waiting c.push_from.new.queue)
     c.loop-vertex-test.true c.loop-vertex.invariant
     (subst (λ (offers : List Offer). AreAdded offers (waiting c.loop-vertex.queue) (waiting c.push_from.new.queue)) same c.in_ok-push_from.ensures)

@@ -1,18 +1,19 @@
-use Rattle.std.proofs.Common.{◌≡◌, ◌<◌, ◌/◌, ◌∙◌, ◌++◌, ℕ, ℤ, List, length, set, All, ap, sym, subst, arith}
+use Rattle.std.proofs.Common.{◌≡◌, ◌<◌, ◌∙◌, ◌++◌, ℕ, ℤ, List, length, set, All, ap, sym, subst, arith}
 use Rattle.std.specs.List.{flat_map}
 use Rattle.std.specs.Vec.{with_items}
 use Rattle.std.proofs.lemmas.List.{with_items_is}
 use Rattle.std.proofs.lemmas.List.Sorted.{IsPermutation-refl}
 use Rattle.stage_flow.specs.declared.offers.Offer.{Offer}
 use Rattle.stage_flow.specs.Residual.{vertex_count}
-use Rattle.stage_flow.specs.Given.{at_vertex, count_at, numbers_at}
+use Rattle.stage_flow.specs.Given.{at_vertex, count_at}
 use Rattle.stage_flow.specs.LawsOfWalks.{label, AreLabels}
-use Rattle.stage_flow.specs.Sending.{ways_by}
+use Rattle.stage_flow.specs.Sending.{ways_by, ways_near}
 use Rattle.stage_flow.specs.Passes.{standing}
-use Rattle.stage_flow.specs.Mending.{AreAdded, AreHeld, offers_of}
+use Rattle.stage_flow.specs.Mending.{AreAdded, IsOfferedBy, offers_of}
 use Rattle.stage_flow.specs.Waiting.{waiting}
-use Rattle.stage_flow.proofs.SendingSearch.{numbers-low}
+use Rattle.stage_flow.proofs.SendingSearch.{row-ways}
 use Rattle.stage_flow.proofs.Halfway.{IsHalfway, marked-low, none-stale, all-right, halfway-held}
+use Rattle.stage_flow.proofs.AddedOffers.{row-offered}
 use Rattle.stage_flow.proofs.HalfwaySteps.{halfway-first, halfway-next, right-exist, stale_count, stale_count-cleared}
 use Rattle.stage_flow.proofs.AheadVertices.{ahead-cleared}
 use Rattle.stage_flow.proofs.mending.put_right.Goals as goal
@@ -28,15 +29,15 @@ loop-offer-init c = record {
       let old = label (at_vertex far) (count_at hops) in
       let offers = waiting c.push_all.new.queue in
       let (lengths, counts, labels) = right-exist net flow (at_vertex far) (count_at hops) stale c.requires.net c.requires.flow c.requires.wanted c.requires.right in
-      let moved = subst (λ (before : List Offer). AreAdded (flat_map (λ vertex. offers_of (standing far hops) stale (ways_by net flow (numbers_at net vertex))) c.args.vertices.now) before offers) c.clear.ensures c.in_ok-push_all.ensures in
+      let moved = subst (λ (before : List Offer). AreAdded (flat_map (λ vertex. offers_of (standing far hops) stale (ways_near net flow vertex)) c.args.vertices.now) before offers) c.clear.ensures c.in_ok-push_all.ensures in
       let first = halfway-first net flow c.requires.net far hops stale c.args.vertices.now c.requires.right c.requires.marked lengths counts labels offers c.requires.each.0 c.requires.each.1 c.requires.each.2 moved in
       subst (λ (xs : List ℤ). IsHalfway net flow old xs c.into_vec-hops.result.items stale offers) (sym (c.into_vec-far.ensures ∙ c.replace.ensures.value))
       (subst (λ (xs : List ℕ). IsHalfway net flow old far xs stale offers) (sym (c.into_vec-hops.ensures ∙ c.replace-2.ensures.value)) first);
   ahead = c.requires.marked.all;
 }
 
-pub push_from-requires-clause-held : goal.push_from-requires-clause-held
-push_from-requires-clause-held c =
+pub push_from-requires : goal.push_from-requires
+push_from-requires c =
     let net = c.args.net.now in
     let flow = c.args.flow.now in
     let old_far = at_vertex c.args.labels.now.far in
@@ -50,20 +51,15 @@ push_from-requires-clause-held c =
     let hops_sized : length hops ≡ c.loop-offer.hops.len = omega (arith, c.accept.auto.hops, c.as_mut_slice-in-Some.ensures.len) in
     let new_far : far ≡ set c.loop-offer.far.items offer.vertex offer.far = c.accept.ensures.far ∙ ap (λ (xs : List ℤ). set xs offer.vertex offer.far) c.as_mut_slice.ensures.value in
     let new_hops : hops ≡ set c.loop-offer.hops.items offer.vertex offer.hops = c.accept.ensures.hops ∙ ap (λ (xs : List ℕ). set xs offer.vertex offer.hops) c.as_mut_slice-in-Some.ensures.value in
-    let made = offers_of (standing far hops) stale (ways_by net flow (numbers_at net offer.vertex)) in
+    let made = offers_of (standing far hops) stale (ways_near net flow offer.vertex) in
     let next =
     halfway-next net flow c.requires.net old_far old_hops c.args.stale.now c.requires.right c.loop-offer.far.items far c.loop-offer.hops.items hops c.loop-offer.stale stale (waiting c.loop-offer.queue) rest offer
     c.loop-offer.invariant.halfway c.in-Some.ensures.first new_far new_hops c.accept.ensures.stale (rest ++ made) (IsPermutation-refl (rest ++ made)) in
     let held = halfway-held net flow c.requires.net old_far old_hops c.args.stale.now c.requires.right far hops stale (rest ++ made) c.requires.flow.each next in
-    subst (λ (xs : List ℤ). AreHeld net flow xs c.as_slice-in-Some.result.now stale) (sym (c.as_slice.ensures.value ∙ with_items_is c.loop-offer.far far far_sized))
-    (subst (λ (xs : List ℕ). AreHeld net flow far xs stale) (sym (c.as_slice-in-Some.ensures.value ∙ with_items_is c.loop-offer.hops hops hops_sized)) held)
-
-pub push_from-requires-clause-pins : goal.push_from-requires-clause-pins
-push_from-requires-clause-pins c =
-    let net = c.args.net.now in
-    let vertex = c.in-Some.offer.vertex in
-    let low : vertex < vertex_count net = (let h = marked-low c.loop-offer.stale vertex c.in-Some.ensures.first.stale in omega (arith, h, c.loop-offer.invariant.halfway.each_mark)) in
-    subst (All (λ number. number / 2 < length net.pins)) (sym (c.at.ensures ∙ c.requires.incidence.at vertex low)) (numbers-low net vertex)
+    let low : offer.vertex < vertex_count net = (let h = marked-low c.loop-offer.stale offer.vertex c.in-Some.ensures.first.stale in omega (arith, h, c.loop-offer.invariant.halfway.each_mark)) in
+    let offered = row-offered net flow far hops stale c.requires.net held c.args.incidence.now offer.vertex c.at.result.now c.requires.incidence low c.at.ensures in
+    subst (λ (xs : List ℤ). All (IsOfferedBy flow xs c.as_slice-in-Some.result.now offer.vertex) c.at.result.now) (sym (c.as_slice.ensures.value ∙ with_items_is c.loop-offer.far far far_sized))
+    (subst (λ (xs : List ℕ). All (IsOfferedBy flow far xs offer.vertex) c.at.result.now) (sym (c.as_slice-in-Some.ensures.value ∙ with_items_is c.loop-offer.hops hops hops_sized)) offered)
 
 pub loop-offer-smaller : goal.loop-offer-smaller
 loop-offer-smaller c =
@@ -91,9 +87,9 @@ loop-offer-preserved c = record {
       let new_hops : hops ≡ set c.loop-offer.hops.items offer.vertex offer.hops = c.accept.ensures.hops ∙ ap (λ (xs : List ℕ). set xs offer.vertex offer.hops) c.as_mut_slice-in-Some.ensures.value in
       let far_read : c.as_slice.result.now ≡ far = c.as_slice.ensures.value ∙ with_items_is c.loop-offer.far far far_sized in
       let hops_read : c.as_slice-in-Some.result.now ≡ hops = c.as_slice-in-Some.ensures.value ∙ with_items_is c.loop-offer.hops hops hops_sized in
-      let numbers : c.at.result.now ≡ numbers_at net offer.vertex = c.at.ensures ∙ c.requires.incidence.at offer.vertex low in
-      let same : offers_of (standing c.as_slice.result.now c.as_slice-in-Some.result.now) stale (ways_by net flow c.at.result.now) ≡ offers_of (standing far hops) stale (ways_by net flow (numbers_at net offer.vertex)) =
-      λ i. offers_of (standing (far_read i) (hops_read i)) stale (ways_by net flow (numbers i)) in
+      let ways : ways_by offer.vertex flow c.at.result.now ≡ ways_near net flow offer.vertex = row-ways net flow c.args.incidence.now offer.vertex c.at.result.now c.requires.incidence low c.at.ensures in
+      let same : offers_of (standing c.as_slice.result.now c.as_slice-in-Some.result.now) stale (ways_by offer.vertex flow c.at.result.now) ≡ offers_of (standing far hops) stale (ways_near net flow offer.vertex) =
+      λ i. offers_of (standing (far_read i) (hops_read i)) stale (ways i) in
       let next =
       halfway-next net flow c.requires.net old_far old_hops c.args.stale.now c.requires.right c.loop-offer.far.items far c.loop-offer.hops.items hops c.loop-offer.stale stale (waiting c.loop-offer.queue) rest offer
       c.loop-offer.invariant.halfway c.in-Some.ensures.first new_far new_hops c.accept.ensures.stale offers

@@ -1,18 +1,16 @@
-use Rattle.std.proofs.Common.{◌≡◌, ◌/◌, ◌<◌, ◌∙◌, ◌++◌, false, length, set, All, ap, sym, subst, arith}
+use Rattle.std.proofs.Common.{◌≡◌, ◌<◌, ◌∙◌, ◌++◌, false, length, set, All, ap, sym, subst, arith}
 use Rattle.std.proofs.lemmas.List.{length-set}
 use Rattle.stage_flow.specs.Residual.{vertex_count}
 use Rattle.stage_flow.specs.Given.{at_vertex, count_at}
-use Rattle.stage_flow.specs.Sending.{ways_by}
 use Rattle.stage_flow.specs.Staleness.{tails_of}
 use Rattle.stage_flow.specs.Raising.{AreDeadBut}
 use Rattle.stage_flow.proofs.HalfwaySteps.{stale_count-cleared, marked-before}
-use Rattle.stage_flow.proofs.SendingSearch.{numbers-low, ways_by-near}
+use Rattle.stage_flow.proofs.SendingSearch.{row-read, row-ways}
 use Rattle.stage_flow.proofs.RevivedVertices.{revived-right, revived-dead, revived-low}
 use Rattle.stage_flow.proofs.reviving.revive.Goals as goal
 
-pub push_tails-requires-clause-pins : goal.push_tails-requires-clause-pins
-push_tails-requires-clause-pins c =
-    subst (All (λ number. number / 2 < length c.args.net.now.pins)) (sym (c.at.ensures ∙ c.requires.incidence.at c.in-Some.vertex c.in-Some.ensures.found.0)) (numbers-low c.args.net.now c.in-Some.vertex)
+pub push_tails-requires : goal.push_tails-requires
+push_tails-requires c = record { read = row-read c.args.net.now c.args.flow.now c.args.labels.now.far c.args.labels.now.hops c.args.incidence.now c.in-Some.vertex c.at.result.now c.requires.read c.requires.incidence c.in-Some.ensures.found.0 c.at.ensures }
 
 pub loop-vertex-smaller : goal.loop-vertex-smaller
 loop-vertex-smaller c =
@@ -32,8 +30,7 @@ loop-vertex-preserved c =
     let each : length marks ≡ length c.args.marks.now = c.loop-vertex.invariant.each in
     let inside : found < length marks = omega (arith, low, each, c.requires.marks) in
     let tails = c.in_ok-push_tails.ensures
-    ∙ ap (λ numbers. after ++ tails_of far hops found (ways_by net flow numbers)) (c.at.ensures ∙ c.requires.incidence.at found low)
-    ∙ ap (λ ways. after ++ tails_of far hops found ways) (ways_by-near net flow found) in
+    ∙ ap (λ ways. after ++ tails_of far hops found ways) (row-ways c.args.net.now c.args.flow.now c.args.incidence.now found c.at.result.now c.requires.incidence low c.at.ensures) in
     record {
       each = length-set marks found false ∙ each;
       right = revived-right net flow far hops marks found inside c.in-Some.ensures.found.2 c.loop-vertex.invariant.right;

@@ -31,7 +31,7 @@ send_along-requires c =
     let (mirror, round) = rounds_go_by_labels net flow far hops c.args.from (ends-among net c.requires.net) c.requires.units
     (fresh-labels_for net flow far hops c.args.marks.now c.requires.kept.right (ways-low net flow (ends-among net c.requires.net)) c.args.from (sender-low net flow c.args.from c.requires.sender) c.requires.fresh) c.requires.sender in
     let room = has_room net far hops flow c.args.from mirror (path_of net flow (Some c.args.from)) c.requires.units c.requires.room round.path in
-    let path = ap (map way_of) c.as_slice.ensures.value ∙ c.in_ok-find_path.ensures in
+    let path = ap (map way_of) c.as_slice.ensures.value ∙ c.in_ok-find_path.ensures.path in
     let units = c.as_mut_slice.ensures.value ∙ c.into_vec-units.ensures ∙ c.replace-pins.ensures.value in
     subst (λ pins. HasRoom (map way_of c.as_slice.result.now) (record { pins = pins })) (sym units)
     (subst (λ ways. HasRoom ways flow) (sym path) room)
@@ -44,7 +44,7 @@ pub returns-clause-ok : goal.returns-clause-ok
 returns-clause-ok c =
     let net = c.args.net.now in
     let flow = c.args.flow.now in
-    let path = ap (map way_of) c.as_slice.ensures.value ∙ c.in_ok-find_path.ensures in
+    let path = ap (map way_of) c.as_slice.ensures.value ∙ c.in_ok-find_path.ensures.path in
     let units = c.as_mut_slice.ensures.value ∙ c.into_vec-units.ensures ∙ c.replace-pins.ensures.value in
     let long : length c.send_along.new.units ≡ c.into_vec-units.result.len = omega (arith, c.as_mut_slice.ensures.len, c.send_along.auto.units) in
     let pins : c.from_vec.result ≡ c.send_along.new.units = c.from_vec.ensures ∙ whole c.into_vec-units.result.len c.send_along.new.units c.into_vec-units.result.items long in

@@ -27,6 +27,7 @@ loop-sent-init c = record {
   flow = c.requires.flow;
   kept = clear-kept c.args.net.now c.args.flow.now (at_vertex c.args.first.far) (count_at c.args.first.hops) c.args.mender.now.marks.items c.requires.net c.requires.labels c.requires.none;
   order = c.requires.order;
+  room = c.requires.room;
   far = c.requires.each.0;
   hops = c.requires.each.1;
 }
@@ -91,6 +92,7 @@ loop-sent-preserved c = record {
   flow = next c.args.net.now c.loop-sent.flow c.send.new.flow c.loop-sent.sent c.in_ok-send.ensures.ok c.loop-sent.invariant.flow;
   kept = c.in_ok-spoil.ensures.kept;
   order = c.in_ok-spoil.ensures.order;
+  room = c.in_ok-send.ensures.reached;
   far = c.in_ok-labels.ensures.each.0;
   hops = c.in_ok-labels.ensures.each.1;
 }

@@ -12,6 +12,7 @@ invariant-loop-sent l = record {
   flow : l.flow ≡ flow_after l.net l.sent;
   kept : AreKept l.net l.flow (at_vertex l.labels.far) (count_at l.labels.hops) l.mender.marks.items;
   order : IsInOrder l.net l.mender;
+  room : length l.room.reached.marks.items ≡ vertex_count l.net;
   far : length l.labels.far ≡ vertex_count l.net;
   hops : length l.labels.hops ≡ vertex_count l.net;
 }

@@ -1,16 +1,14 @@
-use Rattle.std.proofs.Common.{◌≡◌, ◌/◌, ◌<◌, ◌∙◌, ◌++◌, true, length, All, ap, sym, subst}
+use Rattle.std.proofs.Common.{◌≡◌, ◌∙◌, ◌++◌, true, length, ap, sym, subst}
 use Rattle.std.specs.Prelude.{slice_set}
 use Rattle.stage_flow.specs.Given.{at_vertex, count_at}
-use Rattle.stage_flow.specs.Sending.{ways_by}
+use Rattle.stage_flow.specs.Sending.{ways_near}
 use Rattle.stage_flow.specs.Staleness.{tails_of, AreSpread}
-use Rattle.stage_flow.proofs.SendingSearch.{ways_near, numbers-low, ways_by-near}
+use Rattle.stage_flow.proofs.SendingSearch.{row-read, row-ways}
 use Rattle.stage_flow.proofs.StaleVertices.{unmarked-before, length-marked, spread-more, found-one, spread-done}
 use Rattle.stage_flow.proofs.stale.spread.Goals as goal
 
-pub push_tails-requires-clause-pins : goal.push_tails-requires-clause-pins
-push_tails-requires-clause-pins c =
-    let low = c.in-Some.ensures.found.0 in
-    subst (All (λ number. number / 2 < length c.args.net.now.pins)) (sym (c.at.ensures ∙ c.requires.incidence.at c.in-Some.vertex low)) (numbers-low c.args.net.now c.in-Some.vertex)
+pub push_tails-requires : goal.push_tails-requires
+push_tails-requires c = record { read = row-read c.args.net.now c.args.flow.now c.args.labels.now.far c.args.labels.now.hops c.args.incidence.now c.in-Some.vertex c.at.result.now c.requires.read c.requires.incidence c.in-Some.ensures.found.0 c.at.ensures }
 
 pub loop-vertex-preserved : goal.loop-vertex-preserved
 loop-vertex-preserved c =
@@ -22,8 +20,7 @@ loop-vertex-preserved c =
     let after = c.next_stale.new.pending.items in
     let low = c.in-Some.ensures.found.0 in
     let tails = c.in_ok-push_tails.ensures
-    ∙ ap (λ numbers. after ++ tails_of far hops found (ways_by net flow numbers)) (c.at.ensures ∙ c.requires.incidence.at found low)
-    ∙ ap (λ ways. after ++ tails_of far hops found ways) (ways_by-near net flow found) in
+    ∙ ap (λ ways. after ++ tails_of far hops found ways) (row-ways c.args.net.now c.args.flow.now c.args.incidence.now found c.at.result.now c.requires.incidence low c.at.ensures) in
     let each : length c.loop-vertex.marks ≡ length c.args.marks.now = c.loop-vertex.invariant.each in
     record {
       each = length-marked c.loop-vertex.marks found ∙ each;
