@@ -2,7 +2,7 @@
 use Rattle.std.proofs.Common.{◌≡◌, ◌≤◌, ◌<◌, ◌+◌, ◌*◌, ◌^◌, ◌++◌, ◌∙◌, ℕ, suc, List, [], ◌∷◌, Some, get_or, length, take, All, refl, sym, ap, subst, arith}
 use Rattle.std.specs.List.{flat_map}
 use Rattle.std.proofs.lemmas.List.{take_more, take_all, length-take-le}
-use Rattle.std.proofs.lemmas.List.Elements.{All-nil, All-take, All-weaker}
+use Rattle.std.proofs.lemmas.List.Elements.{All-nil, All-take}
 use Rattle.cell_lib.specs.Cell.{arity_of}
 use Rattle.cell_lib.proofs.CallerLemmas.{arity_of-few}
 use Rattle.pattern_table.specs.declared.formula.Formula.{Formula}
@@ -12,26 +12,13 @@ use Rattle.pattern_table.proofs.CallerLemmas.{formula-means}
 use Rattle.gate_net.specs.declared.row.Driver.{Driver}
 use Rattle.gate_net.specs.declared.row.GateRow.{GateRow}
 use Rattle.gate_net.specs.declared.net.GateNet.{GateNet}
-use Rattle.gate_net.specs.Net.{IsThere, IsEndThere, IsGateNet}
-use Rattle.gate_net.proofs.CallerLemmas.{IsEndThere-more}
+use Rattle.gate_net.specs.Net.{IsThere, IsGateNet}
 use Rattle.balance_map.specs.Needed.{parts_in, places_in}
 use Rattle.balance_map.specs.Cover.{Driven, with_cell, and_driver, with_parts, with_formula, walked}
 use Rattle.balance_map.specs.Walks.{most_gates, IsLeafThere, IsReady}
-use Rattle.balance_map.proofs.Formulas.{IsGrown, length-grown, MayWalk, MayWalk-grown, MayWalk-parts, ArePartsWalked, parts-walked, formula-walked}
+use Rattle.balance_map.proofs.Formulas.{MayWalk, MayWalk-grown, MayWalk-parts, ArePartsWalked, parts-walked, formula-walked}
 
--- ---- Netlists whose gates grew
-pub IsGateNet-grown : (net : GateNet) (room : ℕ) (gates : List GateRow) → IsGateNet net → IsGrown net.inputs net.gates room gates → length gates < 2 ^ 31 → IsGateNet (record net { gates = gates })
-IsGateNet-grown net room gates formed grown few = record {
-  gates = grown.formed;
-  outputs = All-weaker (IsEndThere net.inputs (length net.gates)) (IsEndThere net.inputs (length gates)) (IsEndThere-more net.inputs (length net.gates) (length gates) (length-grown net.inputs net.gates gates room grown)) net.outputs formed.outputs;
-  few_gates = few;
-  few_outputs = formed.few_outputs;
-}
-
--- A table that is ready may be walked.
-pub MayWalk-ready : (inputs : ℕ) (gates : List GateRow) (leaves : List Driver) (depth table : ℕ) → IsReady inputs (length gates) leaves depth table → MayWalk inputs leaves depth gates table
-MayWalk-ready inputs gates leaves depth table ready = (ready.formula, ready.there)
-
+-- ---- Parts, one after the other
 -- more parts come after the first
 with_parts-append : (walk : List GateRow → ℕ → Driven Driver) (so : Driven (List Driver)) (tables more : List ℕ) → with_parts walk so (tables ++ more) ≡ with_parts walk (with_parts walk so tables) more
 with_parts-append walk so [] more = refl

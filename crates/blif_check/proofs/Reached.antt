@@ -3,55 +3,20 @@
 -- was gone through the pins are there too (`ReachesOn`). At the end all were gone through, so a walk that begins at one of
 -- them never leaves them. A walk that comes back to a signal goes through one of its pins first. So there is one exactly
 -- where the signal is among what is reached from its pins. All that is reached is a pin, so there is an end.
-use Rattle.std.proofs.Common.{◌≡◌, ◌<◌, ◌≤◌, ◌+◌, ◌++◌, ◌||◌, ◌∙◌, ◌⊎◌, ℕ, zero, suc, Bool, true, false, cond, IsTrue, List, [], ◌∷◌, length, take, get_or, Some, nat_eq, refl, sym, ap, subst, arith, true≢false, ⊎_elim, append_assoc, length-append}
+use Rattle.std.proofs.Common.{◌≡◌, ◌<◌, ◌≤◌, ◌+◌, ◌++◌, ◌||◌, ◌∙◌, ◌⊎◌, ℕ, zero, suc, Bool, true, false, cond, IsTrue, List, [], ◌∷◌, length, take, get_or, Some, nat_eq, refl, sym, ap, subst, arith, true≢false, ⊎_elim, length-append}
 use Rattle.std.specs.Cmp.{nat_eq_equiv}
 use Rattle.std.specs.List.{IsDistinct}
-use Rattle.std.proofs.Math.Bool.{or_assoc, or-false}
 use Rattle.std.proofs.lemmas.Bool.{or_cases, or_left, or_right, eqb-true, eq-eqb}
-use Rattle.std.proofs.lemmas.List.{append-nil, take_all, take_more, take-append-le}
+use Rattle.std.proofs.lemmas.List.{take_more, take-append-le}
 use Rattle.std.proofs.lemmas.List.Folds.{list_any-append}
 use Rattle.std.proofs.lemmas.Map.Made.{length-le_from_is_member}
-use Rattle.indexmap.specs.IndexSet.{insert_key, insert_all}
+use Rattle.indexmap.specs.IndexSet.{insert_all}
 use Rattle.net_base.specs.Keys.{is_among}
+use Rattle.net_base.proofs.CallerLemmas.{keys-grow, keys-among}
 use Rattle.blif_model.specs.declared.design.Table.{Table}
 use Rattle.blif_model.specs.Order.{driver_of, pins_of, leads}
 use Rattle.blif_model.proofs.CallerLemmas.{leads-push, list_any-some, list_any-among}
 use Rattle.blif_check.specs.Cycles.{ComesBack, AreReached, all_pins}
-
--- One signal more goes last, unless it is there.
-key-grows : (keys : List ℕ) (key : ℕ) → (more : List ℕ) × (insert_key nat_eq keys key ≡ keys ++ more)
-key-grows keys key = by (is_among nat_eq key keys)
-  where
-    by : (b : Bool) → (more : List ℕ) × (cond b keys (keys ++ key ∷ []) ≡ keys ++ more)
-    by true = ([], sym (append-nil keys))
-    by false = (key ∷ [], refl)
-
-key-among : (keys : List ℕ) (key x : ℕ) → is_among nat_eq x (insert_key nat_eq keys key) ≡ (is_among nat_eq x keys || nat_eq x key)
-key-among keys key x = by (is_among nat_eq key keys) refl
-  where
-    there : (b : Bool) → nat_eq x key ≡ b → is_among nat_eq key keys ≡ true → is_among nat_eq x keys ≡ (is_among nat_eq x keys || b)
-    there true same among = subst (λ y. is_among nat_eq y keys ≡ (is_among nat_eq y keys || true)) (sym (eqb-true x key same)) (among ∙ sym (or_left (is_among nat_eq key keys) true among))
-    there false other among = sym (or-false (is_among nat_eq x keys))
-
-    by : (b : Bool) → is_among nat_eq key keys ≡ b → is_among nat_eq x (cond b keys (keys ++ key ∷ [])) ≡ (is_among nat_eq x keys || nat_eq x key)
-    by true among = there (nat_eq x key) refl among
-    by false among = list_any-append (nat_eq x) keys (key ∷ []) ∙ ap (λ b. is_among nat_eq x keys || b) (or-false (nat_eq x key))
-
--- What is added goes behind what is there,
-pub keys-grow : (keys more : List ℕ) → (rest : List ℕ) × (insert_all nat_eq keys more ≡ keys ++ rest)
-keys-grow keys [] = ([], sym (append-nil keys))
-keys-grow keys (key ∷ more) =
-    let first = key-grows keys key in
-    let rest = keys-grow (insert_key nat_eq keys key) more in
-    (first.0 ++ rest.0, rest.1 ∙ ap (λ ks. ks ++ rest.0) first.1 ∙ append_assoc keys first.0 rest.0)
-
--- and is among all.
-pub keys-among : (keys more : List ℕ) (x : ℕ) → is_among nat_eq x (insert_all nat_eq keys more) ≡ (is_among nat_eq x keys || is_among nat_eq x more)
-keys-among keys [] x = sym (or-false (is_among nat_eq x keys))
-keys-among keys (key ∷ more) x =
-    keys-among (insert_key nat_eq keys key) more x
-    ∙ ap (λ b. b || is_among nat_eq x more) (key-among keys key x)
-    ∙ or_assoc (is_among nat_eq x keys) (nat_eq x key) (is_among nat_eq x more)
 
 -- While signals are reached: the first few of them have all their pins there.
 pub record ReachesOn (tables : List Table) (first reached : List ℕ) (next : ℕ) : Type 0 where
@@ -124,14 +89,6 @@ reaches-next tables first reached next signal within here was =
 -- There are no more than all pins,
 pub reaches-few : (tables : List Table) (first reached : List ℕ) (next : ℕ) → IsDistinct nat_eq reached → ReachesOn tables first reached next → length reached ≤ length (all_pins tables)
 reaches-few tables first reached next distinct was = length-le_from_is_member nat_eq_equiv reached (all_pins tables) distinct was.listed
-
--- and at the end all are reached.
-pub reaches-all : (tables : List Table) (first reached : List ℕ) (next : ℕ) → length reached ≤ next → ReachesOn tables first reached next → AreReached tables first reached
-reaches-all tables first reached next all was = record {
-  kept = was.kept;
-  found = was.found;
-  closed = λ x pin among. was.closed x pin (ap (is_among nat_eq x) (take_all next reached all) ∙ among);
-}
 
 -- A walk from what was reached ends there.
 stays : (tables : List Table) (first reached : List ℕ) (steps from to : ℕ) → AreReached tables first reached → is_among nat_eq from reached ≡ true → leads tables steps from to ≡ true → is_among nat_eq to reached ≡ true

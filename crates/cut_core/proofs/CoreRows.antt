@@ -1,5 +1,5 @@
 -- The rows that a core keeps: their words are those of the cut lists.
-use Rattle.std.proofs.Common.{◌≡◌, ◌≤◌, ◌<◌, ◌*◌, ◌∙◌, ℕ, Bool, false, List, get_or, length, set, nat_eq, ◌&&◌, ◌+◌, sym, ap, inl, inr, arith}
+use Rattle.std.proofs.Common.{◌≡◌, ◌≤◌, ◌<◌, ◌*◌, ◌∙◌, ℕ, Bool, false, List, get_or, length, set, nat_eq, ◌&&◌, sym, ap, inl, inr, arith}
 use Rattle.std.proofs.lemmas.Bool.{cases_eq, lt-ltb}
 use Rattle.std.proofs.lemmas.List.{get_or-take, get_or-set_same, get_or-set_other, length-set}
 use Rattle.net_base.specs.declared.graph.Graph.{Graph}
@@ -64,16 +64,7 @@ rows-kept graph states rows node state are taken = record {
 }
 
 -- ---- The start
--- The rows of the inputs so far, with one more,
-pub inputs-more : (graph : Graph) (rows : List Row) (i : ℕ) (row : Row) → i < length rows → row ≡ row_with (node_words graph i) → ((k : ℕ) (d : Row) → k < i → get_or rows k d ≡ row_with (node_words graph k)) → (k : ℕ) (d : Row) → k < i + 1 → get_or (set rows i row) k d ≡ row_with (node_words graph k)
-inputs-more graph rows i row within is before k d low = elim (cases_eq k i) [
-  | inl same ↦
-      ap (λ (n : ℕ). get_or (set rows i row) n d) same ∙ get_or-set_same rows i row d within ∙ is
-      ∙ ap (λ (n : ℕ). row_with (node_words graph n)) (sym same)
-  | inr apart ↦ get_or-set_other rows i k row d apart ∙ before k d (omega (arith, apart))
-]
-
--- are the rows of all nodes that aren't free.
+-- The rows of the inputs are the rows of all nodes that aren't free.
 pub inputs-all : (graph : Graph) (rows : List Row) (i : ℕ) → IsProper graph → graph.inputs ≤ i → length rows ≡ length graph.nodes → ((k : ℕ) (d : Row) → k < i → get_or rows k d ≡ row_with (node_words graph k)) → AreRowsOf graph (states_at_start graph) rows
 inputs-all graph rows i proper all each before = record {
   each = each;

@@ -1,6 +1,6 @@
 -- The lemmas that other crates cite: lists of answers per item, values of nodes, look-ups by key, answers that may be faults,
--- entries, and items of lists.
-use Rattle.std.proofs.Common.{◌&&◌, not, false, ◌≡◌, ◌<◌, ◌≤◌, ◌+◌, ◌++◌, ◌||◌, ◌∙◌, ℕ, zero, suc, Bool, true, false, cond, List, [], ◌∷◌, length, get_or, take, drop, map, All, nat_eq, refl, sym, ap, arith, true≢false}
+-- entries, items of lists, and keys that are added to others.
+use Rattle.std.proofs.Common.{◌&&◌, not, ◌≡◌, ◌<◌, ◌≤◌, ◌+◌, ◌++◌, ◌||◌, ◌∙◌, ℕ, zero, suc, Bool, true, false, cond, List, [], ◌∷◌, length, get_or, take, drop, map, All, nat_eq, refl, sym, ap, arith, true≢false}
 use Rattle.std.specs.Prelude.{Some, None, Result, Ok, Err, unwrap_or}
 use Rattle.std.specs.Cmp.{nat_eq_equiv}
 use Rattle.std.specs.List.{AllByRecursion, IsDistinct, list_any}
@@ -16,7 +16,8 @@ use Rattle.net_base.specs.NodeValues.{value_of}
 use Rattle.net_base.specs.Answers.{◌>>=◌}
 use Rattle.net_base.specs.Keys.{is_among}
 use Rattle.net_base.specs.PerItem.{per_item}
-pub use Rattle.net_base.proofs.Lists.{All-left, All-right, All-unmap, Contains-map, Contains-one, position-found}
+pub use Rattle.net_base.proofs.AddedKeys.{keys-grow, keys-among}
+pub use Rattle.net_base.proofs.Lists.{All-left, All-right, All-unmap, Contains-map, Contains-one, map-reverse, position-found}
 
 -- One answer per item, each from the answers before it.
 module _ {A X : Type 0} (answer : List A → X → A) where

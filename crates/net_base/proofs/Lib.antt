@@ -1,3 +1,4 @@
 pub mod CallerLemmas
+mod AddedKeys
 mod Lists
 pub mod Nodes

@@ -17,9 +17,6 @@ IsLevelOf-over size depth parts level is over table h = subst (λ ps. IsLevelOve
 same-place : (size depth size' depth' : ℕ) → 1 ≤ size → 1 ≤ depth → depth ≤ 4 → 1 ≤ size' → 1 ≤ depth' → depth' ≤ 4 → level_place size depth ≡ level_place size' depth' → (size ≡ size') × (depth ≡ depth')
 same-place size depth size' depth' a b d a' b' d' same = (omega arith, omega arith)
 
-pub AreLevels-none : AreLevels 0 []
-AreLevels-none = record { many = omega arith; each = λ size depth a b d e below. absurd (omega arith) }
-
 pub AreLevels-more : (count : ℕ) (levels : List (List (Option Formula))) (size depth : ℕ) (level : List (Option Formula)) → 1 ≤ size → 1 ≤ depth → depth ≤ 4 → level_place size depth ≡ count → IsLevelOf size depth level → AreLevels count levels → AreLevels (count + 1) (levels ++ level ∷ [])
 AreLevels-more count levels size depth level one-size one-depth few-depth place is so-far = record {
   many = omega (arith, length_push levels level, so-far.many);

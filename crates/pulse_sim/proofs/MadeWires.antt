@@ -10,7 +10,7 @@ use Rattle.pulse_net.specs.declared.net.Element.TheVariants.{Clocked, Split}
 use Rattle.pulse_net.specs.declared.net.PulseNet.{PulseNet}
 use Rattle.pulse_net.specs.Wired.{element_makes, makes_of}
 use Rattle.pulse_sim.specs.Sites.{site_wires}
-use Rattle.pulse_sim.specs.Simulators.{pin_bit, site_of, used_inputs}
+use Rattle.pulse_sim.specs.Simulators.{site_of, used_inputs}
 
 insert-new : (wires more : List ℕ) → IsDistinct nat_eq (wires ++ more) → insert_all nat_eq wires more ≡ wires ++ more
 insert-new wires [] h = sym (append-nil wires)
@@ -31,15 +31,6 @@ inserted-all net after_inputs after distinct first then_all =
     then_all ∙ ap (λ wires. insert_all nat_eq wires (flat_map element_makes net.elements)) first
     ∙ sym (insert-append [] (flat_map option_to_list net.inputs) (flat_map element_makes net.elements))
     ∙ insert-new [] (makes_of net) distinct
-
--- the elements that remain, behind the wires of one
-pub insert-element : (wires after : List ℕ) (element : Element) (rest : List Element) → after ≡ insert_all nat_eq wires (element_makes element) → insert_all nat_eq after (flat_map element_makes rest) ≡ insert_all nat_eq wires (flat_map element_makes (element ∷ rest))
-insert-element wires after element rest e = ap (λ wires. insert_all nat_eq wires (flat_map element_makes rest)) e ∙ sym (insert-append wires (element_makes element) (flat_map element_makes rest))
-
--- before the first tick no pin has kept a pulse
-unset-pin : (net : PulseNet) (stage : ℕ) (pin : Option ℕ) → pin_bit net [] stage pin ≡ false
-unset-pin net stage None = refl
-unset-pin net stage (Some wire) = refl
 
 inputs-counted : (inputs : List (Option ℕ)) (place : ℕ) → length (used_inputs place inputs) ≡ length (flat_map option_to_list inputs)
 inputs-counted [] place = refl

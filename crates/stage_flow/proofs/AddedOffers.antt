@@ -13,7 +13,7 @@ use Rattle.stage_flow.specs.declared.offers.Offer.{Offer}
 use Rattle.stage_flow.specs.declared.ways.Near.{Near}
 use Rattle.stage_flow.specs.Residual.{Way, adding, ways_on, ways_of, vertex_count}
 use Rattle.stage_flow.specs.Longest.{Reach}
-use Rattle.stage_flow.specs.Given.{IsNetwork, AreIncidences, near_arc}
+use Rattle.stage_flow.specs.Given.{IsNetwork, IsRow, near_arc}
 use Rattle.stage_flow.specs.Sending.{residual, way_out, way_in, ways_by}
 use Rattle.stage_flow.specs.Mending.{is_open, offer_by, offers_of, AreAdded, IsOffered, IsOfferedBy, AreHeld}
 use Rattle.stage_flow.proofs.NearArcs.{out-ends, in-ends}
@@ -72,6 +72,6 @@ module _ (net : Net) (flow : Flow) (far : List ℤ) (hops : List ℕ) (stale : L
       }
 
   -- So can what those on the arcs of a vertex' row offer.
-  pub row-offered : (rows : List (List Near)) (vertex : ℕ) (nears : List Near) → AreIncidences net rows → vertex < vertex_count net → nears ≡ get_or rows vertex [] → All (IsOfferedBy flow far hops vertex) nears
-  row-offered rows vertex nears incidences low same =
-      All-weaker (IsNear net vertex) (IsOfferedBy flow far hops vertex) (λ near known. near-offered vertex near low known) nears (row-near net rows vertex nears (ends-among net is) incidences low same)
+  pub row-offered : (vertex : ℕ) (nears : List Near) → vertex < vertex_count net → IsRow net vertex nears → All (IsOfferedBy flow far hops vertex) nears
+  row-offered vertex nears low row =
+      All-weaker (IsNear net vertex) (IsOfferedBy flow far hops vertex) (λ near known. near-offered vertex near low known) nears (row-near net vertex nears (ends-among net is) row)

@@ -29,10 +29,6 @@ of_two a b =
 at_least-through : (found : Option Reach) (a b : Reach) → IsNoBetter a b → IsAtLeast found b → IsAtLeast found a
 at_least-through found a b less at = record { best = at.best; is = at.is; no_better = no_better-through a b at.best less at.no_better }
 
--- what is at least as good as something is there
-at_least-there : (found : Option Reach) (reach : Reach) → IsAtLeast found reach → (best : Reach) × (found ≡ Some best) × IsNoBetter reach best
-at_least-there found reach at = (at.best, at.is, at.no_better)
-
 better-first : (a b : Option Reach) (reach : Reach) → IsAtLeast a reach → IsAtLeast (better a b) reach
 better-first None b reach at = let is : None ≡ Some at.best = at.is in absurd (cc)
 better-first (Some a) None reach at = at

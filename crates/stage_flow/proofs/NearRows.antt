@@ -8,7 +8,7 @@ use Rattle.flow_net.specs.declared.net.Net.{Net}
 use Rattle.flow_net.specs.Arcs.{Arc, arcs_of}
 use Rattle.stage_flow.specs.declared.ways.Near.{Near}
 use Rattle.stage_flow.specs.Residual.{vertex_count}
-use Rattle.stage_flow.specs.Given.{IsNetwork, touches, arcs_at, number_of, weight_of, length_of, near_arc, arc_by_end, AreIncidences}
+use Rattle.stage_flow.specs.Given.{IsNetwork, touches, arcs_at, number_of, weight_of, length_of, near_arc, arc_by_end, IsRow, AreIncidences}
 use Rattle.stage_flow.specs.Search.{AreNumbers, numbers_at, arc_by, pin_at, arc_at, near_of, row_of}
 use Rattle.stage_flow.proofs.Linked.{IsUpward}
 use Rattle.stage_flow.proofs.ResidualArcs.{All-arcs_by}
@@ -133,8 +133,10 @@ laid-stand net lists many starts entries is numbers all laid =
     (λ vertex low. laid-row (wanted_rows net lists) many starts entries laid vertex (omega (arith, low, all, numbers.each)) ∙ ap (map (near_of net vertex)) (numbers.at vertex low)) in
     record {
       each = laid-many (wanted_rows net lists) many starts entries laid ∙ all ∙ numbers.each;
-      at = λ vertex low. ap (map (near_arc vertex)) (row vertex low) ∙ map-tells net vertex (arcs_at net vertex) (all-tell net is vertex);
-      apart = λ vertex low. subst (All (λ (near : Near). near.other ≢ vertex)) (sym (row vertex low)) (all-apart net vertex (arcs_at net vertex) (all-tell net is vertex));
+      at = λ vertex low. subst (IsRow net vertex) (sym (row vertex low)) (record {
+        arcs = map-tells net vertex (arcs_at net vertex) (all-tell net is vertex);
+        apart = all-apart net vertex (arcs_at net vertex) (all-tell net is vertex);
+      });
     }
 
 -- Each number at a vertex leads to a pin.

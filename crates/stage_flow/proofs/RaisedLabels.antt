@@ -1,10 +1,10 @@
 -- Labels of marked vertices that are raised. A vertex is raised only where it is marked and the residual arcs out of it still fit. An arc
 -- out of any other vertex fits as before, since its head's label has no fewer arcs; and where it is tight, the head was not raised, since
 -- the arc didn't fit otherwise. So nothing changes at unmarked vertices, and marked ones stay dead unless they were raised.
-use Rattle.std.proofs.Common.{◌≡◌, ◌<◌, ◌≤◌, ◌+◌, ◌-◌, ◌^◌, ◌+ℤ◌, ◌∙◌, ◌⊎◌, inl, inr, ℕ, ℤ, Bool, true, false, List, length, get_or, set, drop, All, Contains, refl, ap, sym, subst, arith, true≢false, ⊎_elim}
-use Rattle.std.proofs.lemmas.Bool.{cases_eq, cases_lt}
+use Rattle.std.proofs.Common.{◌≡◌, ◌<◌, ◌≤◌, ◌+◌, ◌^◌, ◌+ℤ◌, ◌∙◌, ◌⊎◌, inl, inr, ℕ, ℤ, Bool, true, false, List, length, drop, All, Contains, refl, ap, sym, subst, arith, true≢false, ⊎_elim}
+use Rattle.std.proofs.lemmas.Bool.{cases_lt}
 use Rattle.std.proofs.lemmas.Int.{ints}
-use Rattle.std.proofs.lemmas.List.{drop_more, drop_all, get_or_past, get_or-set_same, get_or-set_other}
+use Rattle.std.proofs.lemmas.List.{get_or_past}
 use Rattle.std.proofs.lemmas.List.Elements.{All-contains, All-weaker, All-contains_itself}
 use Rattle.flow_net.specs.declared.net.Net.{Net}
 use Rattle.flow_net.specs.declared.net.Flow.{Flow}
@@ -21,7 +21,6 @@ use Rattle.stage_flow.proofs.Walks.{no_better-test, test-no_better}
 use Rattle.stage_flow.proofs.Labels.{IsLow, tight-nearer}
 use Rattle.stage_flow.proofs.ProgressNetworks.{vertices-few, ends-among}
 use Rattle.stage_flow.proofs.SendingSearch.{near-to}
-use Rattle.stage_flow.proofs.AheadVertices.{head-or-rest}
 
 -- ---- Arcs that fit
 -- Whether an arc fits is a matter of lengths, and where it is level, of numbers of arcs.
@@ -43,12 +42,6 @@ near-fits net flow far hops heights floor vertex ways is all =
     (subst (All (StaysFitting far hops heights floor vertex)) is all) (near-to net flow vertex way there (inl begins)) begins)
     (ways_of net flow) (All-contains_itself (ways_of net flow))
 
--- A vertex that the search didn't come to isn't raised.
-pub all-may_rise : (net : Net) (flow : Flow) (far : ℕ → ℤ) (hops : ℕ → ℕ) (marks : List Bool) (heights reached : List ℕ) (floor : ℕ) → AreTracked heights reached → All (MayRise net flow far hops marks heights floor) reached → (vertex : ℕ) → MayRise net flow far hops marks heights floor vertex
-all-may_rise net flow far hops marks heights reached floor tracked all vertex above =
-    ⊎_elim {C = MayRise net flow far hops marks heights floor vertex} (λ none above. absurd (omega (arith, none, above)))
-    (λ there. All-contains (MayRise net flow far hops marks heights floor) reached vertex all there) (tracked.listed vertex) above
-
 -- No vertex is above a floor that no height is above.
 pub none-rise : (net : Net) (flow : Flow) (far : ℕ → ℤ) (hops : ℕ → ℕ) (marks : List Bool) (heights : List ℕ) (floor : ℕ) → ((vertex : ℕ) → count_at heights vertex ≤ floor) → (vertex : ℕ) → MayRise net flow far hops marks heights floor vertex
 none-rise net flow far hops marks heights floor below vertex above = absurd (let low = below vertex in omega (arith, low, above))
@@ -58,51 +51,9 @@ pub reads : (net : Net) (flow : Flow) (far : List ℤ) (hops : List ℕ) → IsN
 reads net flow far hops is units each_far each_hops = record { few = vertices-few net is; ends = ends-among net is; units = units; each_far = each_far; each_hops = each_hops }
 
 -- ---- Heights
--- One vertex is raised, and its height is at rest: what it is raised to is the same as before.
-pub lifted-one : (hops heights : List ℕ) (floor place vertex : ℕ) → place < length hops → place < length heights
-    → lifted (count_at (set hops place (get_or hops place 0 + (get_or heights place 0 - floor)))) (set heights place 0) floor vertex ≡ lifted (count_at hops) heights floor vertex
-lifted-one hops heights floor place vertex within there =
-    ⊎_elim {C = lifted (count_at (set hops place (get_or hops place 0 + (get_or heights place 0 - floor)))) (set heights place 0) floor vertex ≡ lifted (count_at hops) heights floor vertex}
-    (λ same.
-    let up = get_or-set_same hops place (get_or hops place 0 + (get_or heights place 0 - floor)) 0 within in
-    let down = get_or-set_same heights place 0 0 there in
-    subst (λ v. lifted (count_at (set hops place (get_or hops place 0 + (get_or heights place 0 - floor)))) (set heights place 0) floor v ≡ lifted (count_at hops) heights floor v) (sym same) (omega (arith, up, down)))
-    (λ apart.
-    let up = get_or-set_other hops place vertex (get_or hops place 0 + (get_or heights place 0 - floor)) 0 apart in
-    let down = get_or-set_other heights place vertex 0 0 apart in
-    omega (arith, up, down))
-    (cases_eq vertex place)
-
 -- the vertices of a list, from a place on, that are not at rest
 abbrev pub AreListedFrom : List ℕ → List ℕ → ℕ → Type 0
 AreListedFrom heights reached place = (vertex : ℕ) → (count_at heights vertex ≡ 0) ⊎ Contains (drop place reached) vertex
-
-pub listed-next : (heights reached : List ℕ) (place : ℕ) → place < length reached → get_or reached place 0 < length heights → AreListedFrom heights reached place → AreListedFrom (set heights (get_or reached place 0) 0) reached (place + 1)
-listed-next heights reached place within there listed vertex =
-    ⊎_elim {C = (count_at (set heights at 0) vertex ≡ 0) ⊎ Contains (drop (place + 1) reached) vertex}
-    (λ same. inl (ap (count_at (set heights at 0)) same ∙ get_or-set_same heights at 0 0 there))
-    (λ apart.
-    ⊎_elim {C = (count_at (set heights at 0) vertex ≡ 0) ⊎ Contains (drop (place + 1) reached) vertex}
-    (λ rests. inl (get_or-set_other heights at vertex 0 0 apart ∙ rests))
-    (λ waits.
-    ⊎_elim {C = (count_at (set heights at 0) vertex ≡ 0) ⊎ Contains (drop (place + 1) reached) vertex}
-    (λ same. absurd (apart same)) (λ later. inr later)
-    (head-or-rest at (drop (place + 1) reached) vertex (subst (λ xs. Contains xs vertex) (drop_more reached place 0 within) waits)))
-    (listed vertex))
-    (cases_eq vertex at)
-  where
-    at : ℕ
-    at = get_or reached place 0
-
-pub listed-all : (heights reached : List ℕ) (place : ℕ) → length reached ≤ place → AreListedFrom heights reached place → (vertex : ℕ) → count_at heights vertex ≡ 0
-listed-all heights reached place past listed vertex =
-    ⊎_elim {C = count_at heights vertex ≡ 0} (λ rests. rests) (λ waits. absurd (nothing waits)) (listed vertex)
-  where
-    nothing : Contains (drop place reached) vertex → ⊥
-    nothing (k, within, is) = let long = length-dropped in omega (arith, within, long)
-      where
-        length-dropped : length (drop place reached) ≡ 0
-        length-dropped = ap length (drop_all place reached past)
 
 -- The numbers of arcs that come of it, as a list.
 pub raised-counts : (hops hops' heights heights' grown result : List ℕ) (floor : ℕ) → result ≡ grown → ((vertex : ℕ) → count_at grown vertex ≡ lifted (count_at hops') heights' floor vertex) → hops' ≡ hops → heights' ≡ heights

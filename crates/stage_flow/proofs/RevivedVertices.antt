@@ -1,7 +1,7 @@
 -- Marked vertices that have become sound are unmarked. Whoever is unmarked stays sound, since no vertex is marked anew. A marked vertex that
 -- leads to one that is unmarked now is the tail of a tight arc into it, and is looked at again. At the end nobody is left to be looked at,
 -- so all marked vertices are dead.
-use Rattle.std.proofs.Common.{◌≡◌, ◌≢◌, ◌<◌, ◌∙◌, ◌++◌, ◌⊎◌, inl, inr, ℕ, ℤ, Bool, true, false, List, [], ◌∷◌, length, set, All, Contains, refl, ap, sym, subst, arith, true≢false, ⊎_elim}
+use Rattle.std.proofs.Common.{◌≡◌, ◌≢◌, ◌<◌, ◌∙◌, ◌++◌, ◌⊎◌, inl, inr, ℕ, ℤ, Bool, true, false, List, [], ◌∷◌, length, set, All, Contains, refl, ap, sym, subst, true≢false, ⊎_elim}
 use Rattle.std.proofs.lemmas.Bool.{cases_eq}
 use Rattle.std.proofs.lemmas.List.{get_or-set_same, get_or-set_other}
 use Rattle.std.proofs.lemmas.List.Elements.{All-append, All-contains, All-weaker, All-contains_itself, Contains-append_left, Contains-append_right, Contains-append_cases}
@@ -12,7 +12,7 @@ use Rattle.stage_flow.specs.Residual.{Way, ways_of, vertex_count}
 use Rattle.stage_flow.specs.LawsOfWalks.{IsTight, EndsAreVertices}
 use Rattle.stage_flow.specs.Passes.{mark_at}
 use Rattle.stage_flow.specs.Mending.{IsSound, AreRightOutside}
-use Rattle.stage_flow.specs.Staleness.{LeadsAway, NoneLeadsAway, tails_of, AreDead}
+use Rattle.stage_flow.specs.Staleness.{LeadsAway, NoneLeadsAway, tails_of}
 use Rattle.stage_flow.specs.Raising.{IsDead, AreDeadBut}
 use Rattle.stage_flow.proofs.HalfwaySteps.{marked-before}
 use Rattle.stage_flow.specs.Sending.{ways_near}
@@ -29,11 +29,6 @@ dead-one net flow far hops marks vertex none =
     by way there tight begins true is = is
     by way there tight begins false is = absurd (All-contains (λ (one : Way). LeadsAway far hops marks vertex one → ⊥) (ways_of net flow) way none there (begins, tight, is))
 
-pub dead-unmarked : (net : Net) (flow : Flow) (far : ℕ → ℤ) (hops : ℕ → ℕ) (marks : List Bool) (vertex : ℕ) → mark_at marks vertex ≡ false → IsDead net flow far hops marks vertex
-dead-unmarked net flow far hops marks vertex free =
-    All-weaker (Contains (ways_of net flow)) (λ way. IsTight far hops way → way.tail ≡ vertex → mark_at marks vertex ≡ true → mark_at marks way.head ≡ true)
-    (λ way there tight begins marked. absurd (true≢false (sym marked ∙ free))) (ways_of net flow) (All-contains_itself (ways_of net flow))
-
 -- A dead vertex is taken off those to be looked at.
 pub dead-but-fewer : (net : Net) (flow : Flow) (far : ℕ → ℤ) (hops : ℕ → ℕ) (marks : List Bool) (before after : List ℕ) (taken : ℕ) → before ≡ after ++ taken ∷ [] → IsDead net flow far hops marks taken → AreDeadBut net flow far hops marks before → AreDeadBut net flow far hops marks after
 dead-but-fewer net flow far hops marks before after taken is dead was =
@@ -48,18 +43,6 @@ dead-but-fewer net flow far hops marks before after taken is dead was =
     (Contains-append_cases after (taken ∷ []) way.tail (subst (λ xs. Contains xs way.tail) is listed)))
     (All-contains (λ (one : Way). IsTight far hops one → mark_at marks one.tail ≡ true → (mark_at marks one.head ≡ true) ⊎ Contains before one.tail) (ways_of net flow) way was there tight marked))
     (ways_of net flow) (All-contains_itself (ways_of net flow))
-
--- Where nobody is left to be looked at, all are dead.
-pub dead-all : (net : Net) (flow : Flow) (far : ℕ → ℤ) (hops : ℕ → ℕ) (marks : List Bool) (pending : List ℕ) → pending ≡ [] → AreDeadBut net flow far hops marks pending → AreDead net flow far hops marks
-dead-all net flow far hops marks pending empty was =
-    All-weaker (Contains (ways_of net flow)) (λ way. IsTight far hops way → mark_at marks way.tail ≡ true → mark_at marks way.head ≡ true)
-    (λ way there tight marked.
-    ⊎_elim {C = mark_at marks way.head ≡ true} (λ dead. dead) (λ listed. absurd (nothing way.tail (subst (λ xs. Contains xs way.tail) empty listed)))
-    (All-contains (λ (one : Way). IsTight far hops one → mark_at marks one.tail ≡ true → (mark_at marks one.head ≡ true) ⊎ Contains pending one.tail) (ways_of net flow) way was there tight marked))
-    (ways_of net flow) (All-contains_itself (ways_of net flow))
-  where
-    nothing : (vertex : ℕ) → Contains [] vertex → ⊥
-    nothing vertex (k, within, is) = omega (arith, within)
 
 -- ---- One vertex is unmarked
 module _ (net : Net) (flow : Flow) (far : ℕ → ℤ) (hops : ℕ → ℕ) (marks : List Bool) (vertex : ℕ) (within : vertex < length marks) where

@@ -15,7 +15,7 @@ use Rattle.stage_flow.specs.Rounds.{sender, is_wanting, path_of, moved, along, s
 use Rattle.stage_flow.specs.LawsOfWalks.{IsTight, IsWalk, HasUnits, IsRound, unit_at}
 use Rattle.stage_flow.specs.LawsOfSending.{IsPartFlow}
 use Rattle.stage_flow.specs.Given.{IsNetwork}
-use Rattle.stage_flow.specs.Mending.{IsSound, AreRightOutside, AreMarked}
+use Rattle.stage_flow.specs.Mending.{IsSound, AreMarked}
 use Rattle.stage_flow.specs.Passes.{mark_at}
 use Rattle.stage_flow.specs.Staleness.{AreDead, AreSpread, end_of, AreLeftByRound, tails_on, AreKept}
 use Rattle.stage_flow.proofs.Labels.{IsLow, tight-nearer, wanting-low}
@@ -237,15 +237,3 @@ spread-start net flow far hops from path marks vertices pending left marked is =
     end-low at (way ∷ walk) low all =
         end-low way.head walk (All-head (λ one. (one.tail < vertex_count net) × (one.head < vertex_count net)) way walk all).1
         (All-tail (λ one. (one.tail < vertex_count net) × (one.head < vertex_count net)) way walk all)
-
--- and where it ends.
-pub spread-right : (net : Net) (flow : Flow) (far : ℕ → ℤ) (hops : ℕ → ℕ) (from : ℕ) (path : List Way) (marks : List Bool) (vertices : List ℕ) (before : List Bool) → AreLeftByRound net flow far hops before from path → AreSpread net flow far hops marks vertices []
-    → AreRightOutside net flow far hops marks
-spread-right net flow far hops from path marks vertices before left spread = record {
-  fits = left.fits;
-  nothing = λ v wants. ((left.zero v wants).0, spread.unmarked v wants);
-  few = left.few;
-  held = left.held;
-  sound = λ v within none.
-      ⊎_elim {C = IsSound net flow far hops marks v} (λ nowhere. let (k, low, is) = nowhere in absurd (omega (arith, low))) (λ own. own) (spread.sound v within none);
-}

@@ -6,9 +6,8 @@ use Rattle.std.proofs.Math.Seq.{drop-cons}
 use Rattle.std.proofs.lemmas.Bool.{eqb-true, eq-eqb, or_left, or_right, and_parts, and_from}
 use Rattle.std.proofs.lemmas.List.Elements.{All-nil, All-cons, All-head, All-tail, All-contains, All-weaker, All-more, All-contains_itself, Contains-get_or}
 use Rattle.std.proofs.lemmas.List.{reverse-append, append-nil}
-use Rattle.std.proofs.lemmas.Map.Views.{list_any-from_Contains}
+use Rattle.std.proofs.lemmas.Map.Views.{Contains-from_any, list_any-from_Contains}
 use Rattle.std.specs.Cmp.{nat_eq_equiv}
-use Rattle.indexmap.proofs.CallerLemmas.{Contains-list_any}
 use Rattle.net_base.specs.Keys.{is_among}
 use Rattle.flow_net.specs.declared.net.Net.{Net}
 use Rattle.flow_net.specs.declared.net.Flow.{Flow}
@@ -275,7 +274,7 @@ reads-next net flow far hops marks from read more left less vertex way down read
 
 -- What is true of each, and what is among them.
 pub among-Contains : (xs : List ℕ) (x : ℕ) → is_among nat_eq x xs ≡ true → Contains xs x
-among-Contains xs x among = Contains-list_any nat_eq (λ a b same. eqb-true a b same) xs x among
+among-Contains xs x among = Contains-from_any (λ a b same. eqb-true a b same) x xs among
 
 pub Contains-among : (xs : List ℕ) (x : ℕ) → Contains xs x → is_among nat_eq x xs ≡ true
 Contains-among xs x there = list_any-from_Contains nat_eq_equiv x xs there

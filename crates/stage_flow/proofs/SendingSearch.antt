@@ -1,18 +1,17 @@
 -- The search along tight arcs. Vertices are added behind those that are there, and are gone through in order. Each was found by a
 -- walk of tight arcs, and of each that was gone through the heads of its tight arcs are there too. At the end all were gone
 -- through, so what was reached is what walks of tight arcs reach.
-use Rattle.std.proofs.Common.{◌≡◌, ◌≢◌, nat_lt, ◌<◌, ◌≤◌, ◌+◌, ◌/◌, ◌==◌, ◌∙◌, ◌++◌, ◌⊎◌, ◌||◌, ◌&&◌, inl, ℕ, zero, suc, ℤ, nat_eq, Bool, true, false, not, cond, List, [], ◌∷◌, length, get_or, map, filter, take, drop, All, Contains, Some, refl, ap, sym, subst, arith, true≢false, ⊎_elim, append_assoc, length-append}
+use Rattle.std.proofs.Common.{◌≡◌, ◌≢◌, nat_lt, ◌<◌, ◌≤◌, ◌+◌, ◌/◌, ◌==◌, ◌∙◌, ◌++◌, ◌⊎◌, ◌||◌, ◌&&◌, inl, ℕ, zero, suc, ℤ, nat_eq, Bool, true, false, not, cond, List, [], ◌∷◌, length, get_or, map, filter, take, drop, All, Contains, Some, refl, ap, sym, subst, arith, true≢false, ⊎_elim, length-append}
 use Rattle.std.specs.List.{flat_map, IsDistinct}
-use Rattle.std.proofs.Math.Bool.{or_assoc, or-false}
 use Rattle.std.proofs.Math.Seq.{drop-cons}
 use Rattle.std.proofs.lemmas.Bool.{eqb-true, eq-eqb, or_left, or_right, or_cases, and_parts, and_from, not-true}
-use Rattle.std.proofs.lemmas.List.{append-nil, get_or-map, length-map, take_all, take_more, take-append-le, map-append}
+use Rattle.std.proofs.lemmas.List.{get_or-map, length-map, take_all, take_more, take-append-le, map-append}
 use Rattle.std.proofs.lemmas.List.Folds.{list_any-append}
 use Rattle.std.proofs.lemmas.List.Sums.{fold-append}
 use Rattle.std.proofs.lemmas.List.Elements.{All-nil, All-head, All-contains, All-filter, All-contains_itself, All-weaker, filter-append}
 use Rattle.std.proofs.lemmas.Map.Steps.{length-le_from_distinct_below}
-use Rattle.indexmap.specs.IndexSet.{insert_key, insert_all}
-use Rattle.net_base.specs.Keys.{is_among}
+use Rattle.net_base.specs.Keys.{is_among, with_key, with_keys}
+use Rattle.net_base.proofs.CallerLemmas.{keys-grow, keys-among}
 use Rattle.flow_net.specs.declared.net.Net.{Net}
 use Rattle.flow_net.specs.declared.net.Flow.{Flow}
 use Rattle.stage_flow.specs.declared.ways.Near.{Near}
@@ -20,7 +19,7 @@ use Rattle.flow_net.specs.Arcs.{Arc, arcs_of}
 use Rattle.stage_flow.specs.Residual.{Way, ways_on, ways_of, vertex_count}
 use Rattle.stage_flow.specs.Rounds.{is_reach}
 use Rattle.stage_flow.specs.LawsOfWalks.{IsTight, IsTightWalk, IsInLayer, EndsAreVertices, led_by, label}
-use Rattle.stage_flow.specs.Given.{touches, number_of, near_arc, arc_by_end, AreIncidences}
+use Rattle.stage_flow.specs.Given.{touches, number_of, near_arc, arc_by_end, IsRow}
 use Rattle.stage_flow.specs.Passes.{mark_at}
 use Rattle.stage_flow.specs.Sending.{way_out, ways_by, ways_near, is_residual, IsRead, AreRead, is_tight, leads_on, heads_of, AreReached}
 use Rattle.stage_flow.specs.Staleness.{AreDead}
@@ -29,7 +28,7 @@ use Rattle.stage_flow.proofs.Path.{is_reach-is, is_reach-same}
 use Rattle.stage_flow.proofs.Units.{arc-low}
 use Rattle.stage_flow.proofs.Along.{way-on, way-on_arc, adding-there, taking-there, ways-there, adding-in, taking-in}
 use Rattle.stage_flow.proofs.Round.{ways-low}
-use Rattle.stage_flow.proofs.NearArcs.{only_if, out-alone, out-ends}
+use Rattle.stage_flow.proofs.NearArcs.{only_if, out-alone}
 
 -- ---- The residual arcs at a vertex
 filter-there : (test : Arc → Bool) (arcs : List Arc) (arc : Arc) → Contains arcs arc → test arc ≡ true → Contains (filter test arcs) arc
@@ -47,8 +46,8 @@ near-there : (net : Net) (vertex : ℕ) → All (Contains (arcs_of net)) (filter
 near-there net vertex = All-filter (touches vertex) (Contains (arcs_of net)) (arcs_of net) (All-contains_itself (arcs_of net))
 
 -- A row stands for the arcs that touch its vertex, and so for their residual arcs.
-pub row-ways : (net : Net) (flow : Flow) (rows : List (List Near)) (vertex : ℕ) (nears : List Near) → AreIncidences net rows → vertex < vertex_count net → nears ≡ get_or rows vertex [] → ways_by vertex flow nears ≡ ways_near net flow vertex
-row-ways net flow rows vertex nears incidences low is = ap (ways_by vertex flow) is ∙ ap (flat_map (ways_on flow)) (incidences.at vertex low)
+pub row-ways : (net : Net) (flow : Flow) (vertex : ℕ) (nears : List Near) → IsRow net vertex nears → ways_by vertex flow nears ≡ ways_near net flow vertex
+row-ways net flow vertex nears row = ap (flat_map (ways_on flow)) row.arcs
 
 -- what is known of an entry of a row
 pub record IsNear (net : Net) (vertex : ℕ) (near : Near) : Type 0 where
@@ -57,45 +56,36 @@ pub record IsNear (net : Net) (vertex : ℕ) (near : Near) : Type 0 where
   pub low : near.other < vertex_count net
   pub there : Contains (arcs_of net) (near_arc vertex near)
 
-pub row-near : (net : Net) (rows : List (List Near)) (vertex : ℕ) (nears : List Near) → EndsAreVertices net → AreIncidences net rows → vertex < vertex_count net → nears ≡ get_or rows vertex [] → All (IsNear net vertex) nears
-row-near net rows vertex nears ends incidences low is = subst (All (IsNear net vertex)) (sym is) each
+pub row-near : (net : Net) (vertex : ℕ) (nears : List Near) → EndsAreVertices net → IsRow net vertex nears → All (IsNear net vertex) nears
+row-near net vertex nears ends row i d within =
+    let near = get_or nears i d in
+    let long = length-map nears on in
+    let there : Contains (arcs_of net) (on near) =
+    subst (Contains (arcs_of net)) (get_or-map on nears i d (on d) within)
+    (subst (All (Contains (arcs_of net))) (sym row.arcs) (near-there net vertex) i (on d) (omega (arith, within, long))) in
+    let low = All-contains (λ (arc : Arc). (arc.tail < vertex_count net) × (arc.head < vertex_count net)) (arcs_of net) (on near) ends there in
+    record { apart = row.apart i d within; pin = by (nat_lt near.other vertex) (arc-low net (on near) there); low = other (nat_lt near.other vertex) low; there = there }
   where
-    row : List Near
-    row = get_or rows vertex []
-
     on : Near → Arc
     on = near_arc vertex
 
-    each : All (IsNear net vertex) row
-    each i d within =
-        let near = get_or row i d in
-        let long = length-map row on in
-        let there : Contains (arcs_of net) (on near) =
-        subst (Contains (arcs_of net)) (get_or-map on row i d (on d) within)
-        (subst (All (Contains (arcs_of net))) (sym (incidences.at vertex low)) (near-there net vertex) i (on d) (omega (arith, within, long))) in
-        let low = All-contains (λ (arc : Arc). (arc.tail < vertex_count net) × (arc.head < vertex_count net)) (arcs_of net) (on near) ends there in
-        record { apart = incidences.apart vertex low_ i d within; pin = by (nat_lt near.other vertex) (arc-low net (on near) there); low = other (nat_lt near.other vertex) low; there = there }
-      where
-        low_ : vertex < vertex_count net
-        low_ = low
+    by : (lower : Bool) → (arc_by_end lower vertex (get_or nears i d)).number / 2 < length net.pins → number_of (get_or nears i d) / 2 < length net.pins
+    by true h = h
+    by false h = h
 
-        by : (lower : Bool) → (arc_by_end lower vertex (get_or row i d)).number / 2 < length net.pins → number_of (get_or row i d) / 2 < length net.pins
-        by true h = h
-        by false h = h
-
-        other : (lower : Bool) → ((arc_by_end lower vertex (get_or row i d)).tail < vertex_count net) × ((arc_by_end lower vertex (get_or row i d)).head < vertex_count net) → (get_or row i d).other < vertex_count net
-        other true h = h.0
-        other false h = h.1
+    other : (lower : Bool) → ((arc_by_end lower vertex (get_or nears i d)).tail < vertex_count net) × ((arc_by_end lower vertex (get_or nears i d)).head < vertex_count net) → (get_or nears i d).other < vertex_count net
+    other true h = h.0
+    other false h = h.1
 
 -- So it can be read.
-pub row-read : (net : Net) (flow : Flow) (far : List ℤ) (hops : List ℕ) (rows : List (List Near)) (vertex : ℕ) (nears : List Near) → AreRead net flow far hops → AreIncidences net rows → vertex < vertex_count net → nears ≡ get_or rows vertex [] → All (IsRead flow far hops vertex) nears
-row-read net flow far hops rows vertex nears read incidences low is =
+pub row-read : (net : Net) (flow : Flow) (far : List ℤ) (hops : List ℕ) (vertex : ℕ) (nears : List Near) → AreRead net flow far hops → vertex < vertex_count net → IsRow net vertex nears → All (IsRead flow far hops vertex) nears
+row-read net flow far hops vertex nears read low row =
     All-weaker (IsNear net vertex) (IsRead flow far hops vertex) (λ near known. record {
       apart = known.apart;
       units = omega (arith, known.pin, read.units);
       lengths = (omega (arith, low, read.each_far), omega (arith, known.low, read.each_far));
       counts = (omega (arith, low, read.each_hops), omega (arith, known.low, read.each_hops));
-    }) nears (row-near net rows vertex nears read.ends incidences low is)
+    }) nears (row-near net vertex nears read.ends row)
 
 pub near-from : (net : Net) (flow : Flow) (vertex : ℕ) (way : Way) → Contains (ways_near net flow vertex) way → Contains (ways_of net flow) way
 near-from net flow vertex way there =
@@ -143,16 +133,16 @@ heads-append far hops marks vertex a b =
 
 -- What is reached over one arc more, and then over the rest.
 pub reached-step : (flow : Flow) (far : ℕ → ℤ) (hops : ℕ → ℕ) (marks : List Bool) (vertex : ℕ) (nears : List Near) (i : ℕ) (d : Near) (keys next : List ℕ) → i < length nears
-    → next ≡ insert_all nat_eq keys (heads_of far hops marks vertex (ways_on flow (near_arc vertex (get_or nears i d))))
-    → insert_all nat_eq next (heads_of far hops marks vertex (ways_by vertex flow (drop (i + 1) nears))) ≡ insert_all nat_eq keys (heads_of far hops marks vertex (ways_by vertex flow (drop i nears)))
+    → next ≡ with_keys nat_eq keys (heads_of far hops marks vertex (ways_on flow (near_arc vertex (get_or nears i d))))
+    → with_keys nat_eq next (heads_of far hops marks vertex (ways_by vertex flow (drop (i + 1) nears))) ≡ with_keys nat_eq keys (heads_of far hops marks vertex (ways_by vertex flow (drop i nears)))
 reached-step flow far hops marks vertex nears i d keys next within is =
     let own = ways_on flow (near_arc vertex (get_or nears i d)) in
     let rest = ways_by vertex flow (drop (i + 1) nears) in
     let first : drop i nears ≡ get_or nears i d ∷ drop (i + 1) nears = drop-cons nears i d within ∙ ap (λ n. get_or nears i d ∷ drop n nears) (let h : suc i ≡ i + 1 = omega arith in h) in
-    ap (λ ks. insert_all nat_eq ks (heads_of far hops marks vertex rest)) is
-    ∙ sym (fold-append (insert_key nat_eq) keys (heads_of far hops marks vertex own) (heads_of far hops marks vertex rest))
-    ∙ ap (insert_all nat_eq keys) (sym (heads-append far hops marks vertex own rest))
-    ∙ ap (λ ns. insert_all nat_eq keys (heads_of far hops marks vertex (ways_by vertex flow ns))) (sym first)
+    ap (λ ks. with_keys nat_eq ks (heads_of far hops marks vertex rest)) is
+    ∙ sym (fold-append (with_key nat_eq) keys (heads_of far hops marks vertex own) (heads_of far hops marks vertex rest))
+    ∙ ap (with_keys nat_eq keys) (sym (heads-append far hops marks vertex own rest))
+    ∙ ap (λ ns. with_keys nat_eq keys (heads_of far hops marks vertex (ways_by vertex flow ns))) (sym first)
 
 -- The residual arc that leaves a vertex is the only one on an arc there whose head may be reached.
 pub heads-out : (flow : Flow) (far : ℕ → ℤ) (hops : ℕ → ℕ) (marks : List Bool) (vertex : ℕ) (near : Near) → near.other ≢ vertex
@@ -228,39 +218,7 @@ among-head far hops marks vertex (first ∷ ways) x among = by (leads_on far hop
         (λ rest. later (next rest)) (or_cases (nat_eq x first.head) (is_among nat_eq x (heads_of far hops marks vertex ways)) among)
     by false own among next = later (next among)
 
--- ---- Keys among those that were inserted
-key-grows : (keys : List ℕ) (key : ℕ) → (more : List ℕ) × (insert_key nat_eq keys key ≡ keys ++ more)
-key-grows keys key = by (is_among nat_eq key keys)
-  where
-    by : (b : Bool) → (more : List ℕ) × (cond b keys (keys ++ key ∷ []) ≡ keys ++ more)
-    by true = ([], sym (append-nil keys))
-    by false = (key ∷ [], refl)
-
-key-among : (keys : List ℕ) (key x : ℕ) → is_among nat_eq x (insert_key nat_eq keys key) ≡ (is_among nat_eq x keys || nat_eq x key)
-key-among keys key x = by (is_among nat_eq key keys) refl
-  where
-    there : (b : Bool) → nat_eq x key ≡ b → is_among nat_eq key keys ≡ true → is_among nat_eq x keys ≡ (is_among nat_eq x keys || b)
-    there true same among = subst (λ y. is_among nat_eq y keys ≡ (is_among nat_eq y keys || true)) (sym (eqb-true x key same)) (among ∙ sym (or_left (is_among nat_eq key keys) true among))
-    there false other among = sym (or-false (is_among nat_eq x keys))
-
-    by : (b : Bool) → is_among nat_eq key keys ≡ b → is_among nat_eq x (cond b keys (keys ++ key ∷ [])) ≡ (is_among nat_eq x keys || nat_eq x key)
-    by true among = there (nat_eq x key) refl among
-    by false among = list_any-append (nat_eq x) keys (key ∷ []) ∙ ap (λ b. is_among nat_eq x keys || b) (or-false (nat_eq x key))
-
-keys-grow : (keys more : List ℕ) → (rest : List ℕ) × (insert_all nat_eq keys more ≡ keys ++ rest)
-keys-grow keys [] = ([], sym (append-nil keys))
-keys-grow keys (key ∷ more) =
-    let first = key-grows keys key in
-    let rest = keys-grow (insert_key nat_eq keys key) more in
-    (first.0 ++ rest.0, rest.1 ∙ ap (λ ks. ks ++ rest.0) first.1 ∙ append_assoc keys first.0 rest.0)
-
-keys-among : (keys more : List ℕ) (x : ℕ) → is_among nat_eq x (insert_all nat_eq keys more) ≡ (is_among nat_eq x keys || is_among nat_eq x more)
-keys-among keys [] x = sym (or-false (is_among nat_eq x keys))
-keys-among keys (key ∷ more) x =
-    keys-among (insert_key nat_eq keys key) more x
-    ∙ ap (λ b. b || is_among nat_eq x more) (key-among keys key x)
-    ∙ or_assoc (is_among nat_eq x keys) (nat_eq x key) (is_among nat_eq x more)
-
+-- ---- Vertices among those that were reached
 pub at-among : (xs : List ℕ) (i x : ℕ) → i < length xs → x ≡ get_or xs i 0 → is_among nat_eq x xs ≡ true
 at-among [] i x within at = absurd (omega arith)
 at-among (y ∷ xs) zero x within at = or_left (nat_eq x y) (is_among nat_eq x xs) (eq-eqb x y at)
@@ -291,7 +249,7 @@ reaches-first net flow far hops marks from reached is within free =
     }
 
 pub reaches-next : (net : Net) (flow : Flow) (far : ℕ → ℤ) (hops : ℕ → ℕ) (marks : List Bool) (from : ℕ) (reached : List ℕ) (next vertex : ℕ) (new : List ℕ) → EndsAreVertices net → next < length reached → vertex ≡ get_or reached next 0
-    → new ≡ insert_all nat_eq reached (heads_of far hops marks vertex (ways_near net flow vertex)) → ReachesOn net flow far hops marks from reached next → ReachesOn net flow far hops marks from new (next + 1)
+    → new ≡ with_keys nat_eq reached (heads_of far hops marks vertex (ways_near net flow vertex)) → ReachesOn net flow far hops marks from reached next → ReachesOn net flow far hops marks from new (next + 1)
 reaches-next net flow far hops marks from reached next vertex new ends within here is was =
     let near = ways_near net flow vertex in
     let heads = heads_of far hops marks vertex near in

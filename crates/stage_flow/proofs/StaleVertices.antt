@@ -3,7 +3,6 @@
 use Rattle.std.proofs.Common.{◌≡◌, ◌≢◌, ◌<◌, ◌+◌, ◌==◌, ◌∙◌, ◌++◌, ◌⊎◌, inl, inr, ℕ, zero, suc, ℤ, Bool, true, false, cond, List, [], ◌∷◌, length, get_or, map, filter, drop, All, Any, Contains, Option, Some, None, refl, ap, sym, subst, arith, true≢false, ⊎_elim, append_assoc}
 use Rattle.std.specs.Prelude.{slice_set}
 use Rattle.std.specs.List.{sum_by}
-use Rattle.std.proofs.lemmas.List.Sums.{sum_by-set}
 use Rattle.std.proofs.Math.Seq.{drop-cons}
 use Rattle.std.proofs.lemmas.Bool.{eqb-true, eq-eqb, and_parts, and_from}
 use Rattle.std.proofs.lemmas.List.{get_or-set_same, get_or-set_other, length-set, map-append}
@@ -22,7 +21,7 @@ use Rattle.stage_flow.specs.Mending.{IsSound}
 use Rattle.stage_flow.specs.Staleness.{LeadsAway, NoneLeadsAway, leads_to, tails_of, AreSpread}
 use Rattle.stage_flow.proofs.Labels.{IsLow}
 use Rattle.stage_flow.proofs.Round.{ways-low}
-use Rattle.stage_flow.proofs.NearArcs.{only_if, in-alone, in-ends}
+use Rattle.stage_flow.proofs.NearArcs.{only_if, in-alone}
 use Rattle.stage_flow.proofs.SendingSearch.{near-from, near-to, tight-test, test-tight}
 
 -- ---- Tails of tight arcs
@@ -106,12 +105,6 @@ unmarked-before (mark ∷ marks) (suc vertex) (suc other) is = unmarked-before m
 -- How many vertices are unmarked; one mark more leaves fewer.
 abbrev pub unmarked : List Bool → ℕ
 unmarked marks = sum_by (λ (mark : Bool). cond mark 0 1) marks
-
-pub unmarked-fewer : (marks : List Bool) (vertex : ℕ) → vertex < length marks → mark_at marks vertex ≡ false → unmarked (slice_set marks vertex true) < unmarked marks
-unmarked-fewer marks vertex within none =
-    let one = sum_by-set (λ (mark : Bool). cond mark 0 1) marks vertex true false within in
-    let own : ◌≡◌ {A = ℕ} (cond (mark_at marks vertex) 0 1) 1 = ap (λ (mark : Bool). cond mark 0 1) none in
-    omega (arith, one, own)
 
 -- ---- One stale vertex more
 -- what was looked at for the next stale vertex: each vertex that was to be looked at still is, or is the one, or is marked or sound

@@ -60,8 +60,12 @@ arc_by_end false vertex near = record { tail = vertex; head = near.other; length
 abbrev pub near_arc : ℕ → Near → Arc
 near_arc vertex near = arc_by_end (nat_lt near.other vertex) vertex near
 
--- rows of entries stand for the arcs at each vertex, none of which leads back to it
+-- the row of a vertex: its entries stand for the arcs at the vertex, none of which leads back to it
+pub record IsRow (net : Net) (vertex : ℕ) (nears : List Near) : Type 0 where
+  pub arcs : map (near_arc vertex) nears ≡ arcs_at net vertex
+  pub apart : All (λ near. near.other ≢ vertex) nears
+
+-- a row for each vertex
 pub record AreIncidences (net : Net) (rows : List (List Near)) : Type 0 where
   pub each : length rows ≡ vertex_count net
-  pub at : (vertex : ℕ) → vertex < vertex_count net → map (near_arc vertex) (slice_index_or rows vertex []) ≡ arcs_at net vertex
-  pub apart : (vertex : ℕ) → vertex < vertex_count net → All (λ near. near.other ≢ vertex) (slice_index_or rows vertex [])
+  pub at : (vertex : ℕ) → vertex < vertex_count net → IsRow net vertex (slice_index_or rows vertex [])

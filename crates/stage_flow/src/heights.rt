@@ -10,11 +10,12 @@
 
 ghost use Rattle.std.specs.Prelude.{◌≡◌, ◌<◌, ◌/◌, ◌+ℤ◌, ◌↔◌, All, IsTrue, length, OnOk, IfOk};
 ghost use Rattle.stage_flow.specs.Residual.{vertex_count};
-ghost use Rattle.stage_flow.specs.Given.{AreIncidences, at_vertex};
+ghost use Rattle.stage_flow.specs.Given.{at_vertex};
 ghost use Rattle.stage_flow.specs.Sending.{IsRead, AreRead};
 ghost use Rattle.stage_flow.specs.Raising.{AreTracked, AreAtRest};
 
-use crate::incidence::{Incidence, vertices};
+use crate::arcs::Arcs;
+use crate::incidence::vertices;
 use crate::offers::is_marked;
 use crate::search::Labels;
 use crate::ways::{Near, Step, is_there, step_out};
@@ -210,18 +211,16 @@ impl Room {
 
 /// Searches from a vertex until none waits above the floor, which is the answer.
 pub(crate) fn search(
-    net: &Net,
-    incidence: &Incidence,
+    arcs: &Arcs<'_>,
     flow: &Flow,
     labels: &Labels,
     marks: &[bool],
     from: u32,
     room: &mut Room,
 ) -> Result<u32, NoMemory>
-    requires read { AreRead net.now flow.now labels.now.far labels.now.hops }
-    requires incidence { AreIncidences net.now incidence.now }
-    requires from { from < vertex_count net.now }
-    requires rest { AreAtRest net.now room.old.heights.items }
+    requires read { AreRead arcs.now flow.now labels.now.far labels.now.hops }
+    requires from { from < vertex_count arcs.now }
+    requires rest { AreAtRest arcs.now room.old.heights.items }
     ensures each { length room.new.heights.items ≡ length room.old.heights.items }
     ensures tracked { OnOk result (AreTracked room.new.heights.items room.new.reached.items) }
 {
@@ -241,15 +240,7 @@ pub(crate) fn search(
         }
         // A vertex to which it came higher later on waits in vain.
         if stands_at(room.heights.as_slice(), vertex, height) {
-            come_from(
-                flow,
-                labels,
-                marks,
-                vertex,
-                height,
-                incidence.at(vertex),
-                room,
-            )?;
+            come_from(flow, labels, marks, vertex, height, arcs.at(vertex), room)?;
         }
     }
     Ok(if room.floor > 0 {

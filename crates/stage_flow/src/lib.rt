@@ -25,6 +25,7 @@
 //! of linear programs. The labels towards the mirrors that want, which serve all senders, and the ties are our own.
 #![tactic(auto)]
 
+mod arcs;
 mod beginning;
 mod epochs;
 mod frontier;

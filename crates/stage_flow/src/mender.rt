@@ -7,15 +7,16 @@
 ghost use Rattle.std.specs.Prelude.{◌≡◌, ◌<◌, ◌++◌, [], ℕ, false, length, map, OnOk, IfOk};
 ghost use Rattle.stage_flow.specs.Residual.{vertex_count};
 ghost use Rattle.stage_flow.specs.LawsOfSending.{IsPartFlow, SomeMirrorWants};
-ghost use Rattle.stage_flow.specs.Given.{IsNetwork, AreIncidences, at_vertex, count_at};
+ghost use Rattle.stage_flow.specs.Given.{IsNetwork, at_vertex, count_at};
 ghost use Rattle.stage_flow.specs.Passes.{mark_at};
 ghost use Rattle.stage_flow.specs.Sending.{way_of};
 ghost use Rattle.stage_flow.specs.Staleness.{end_of, tails_on, AreLeftByRound, AreNear, AreKept};
 ghost use Rattle.stage_flow.specs.Keeping.{IsInOrder};
 
+use crate::arcs::Arcs;
 use crate::beginning::marked;
 use crate::heights::Room;
-use crate::incidence::{Incidence, vertices};
+use crate::incidence::vertices;
 use crate::mending::settle;
 use crate::offers::{Queue, is_marked};
 use crate::reviving::lift;
@@ -71,26 +72,23 @@ impl Mender {
     // Puts all labels right. No vertex is stale any more.
     fn settle_all(
         &mut self,
-        net: &Net,
-        incidence: &Incidence,
+        arcs: &Arcs<'_>,
         flow: &Flow,
         labels: Labels,
     ) -> Result<Labels, NoMemory>
-        requires net { IsNetwork net.now }
-        requires incidence { AreIncidences net.now incidence.now }
-        requires flow { IsPartFlow net.now flow.now }
-        requires wanted { SomeMirrorWants net.now flow.now }
-        requires each { (length labels.far ≡ vertex_count net.now) × (length labels.hops ≡ vertex_count net.now) }
-        requires kept { AreKept net.now flow.now (at_vertex labels.far) (count_at labels.hops) self.old.marks.items }
-        requires order { IsInOrder net.now self.old }
-        ensures kept { IfOk result (λ labels. AreKept net.now flow.now (at_vertex labels.far) (count_at labels.hops) self.new.marks.items) }
+        requires net { IsNetwork arcs.now }
+        requires flow { IsPartFlow arcs.now flow.now }
+        requires wanted { SomeMirrorWants arcs.now flow.now }
+        requires each { (length labels.far ≡ vertex_count arcs.now) × (length labels.hops ≡ vertex_count arcs.now) }
+        requires kept { AreKept arcs.now flow.now (at_vertex labels.far) (count_at labels.hops) self.old.marks.items }
+        requires order { IsInOrder arcs.now self.old }
+        ensures kept { IfOk result (λ labels. AreKept arcs.now flow.now (at_vertex labels.far) (count_at labels.hops) self.new.marks.items) }
         ensures none { OnOk result ((vertex : ℕ) → mark_at self.new.marks.items vertex ≡ false) }
-        ensures each { IfOk result (λ labels. (length labels.far ≡ vertex_count net.now) × (length labels.hops ≡ vertex_count net.now)) }
-        ensures order { OnOk result (IsInOrder net.now self.new) }
+        ensures each { IfOk result (λ labels. (length labels.far ≡ vertex_count arcs.now) × (length labels.hops ≡ vertex_count arcs.now)) }
+        ensures order { OnOk result (IsInOrder arcs.now self.new) }
     {
         let labels = settle(
-            net,
-            incidence,
+            arcs,
             flow,
             labels,
             self.marks.as_mut_slice(),
@@ -104,57 +102,53 @@ impl Mender {
     // Raises labels near a vertex.
     fn raise_near(
         &mut self,
-        net: &Net,
-        incidence: &Incidence,
+        arcs: &Arcs<'_>,
         flow: &Flow,
         labels: Labels,
         from: u32,
     ) -> Result<Labels, NoMemory>
-        requires net { IsNetwork net.now }
-        requires incidence { AreIncidences net.now incidence.now }
-        requires units { length flow.now.pins ≡ length net.now.pins }
-        requires from { from < vertex_count net.now }
-        requires each { (length labels.far ≡ vertex_count net.now) × (length labels.hops ≡ vertex_count net.now) }
-        requires kept { AreKept net.now flow.now (at_vertex labels.far) (count_at labels.hops) self.old.marks.items }
-        requires order { IsInOrder net.now self.old }
-        ensures kept { IfOk result (λ labels. AreKept net.now flow.now (at_vertex labels.far) (count_at labels.hops) self.new.marks.items) }
-        ensures each { IfOk result (λ labels. (length labels.far ≡ vertex_count net.now) × (length labels.hops ≡ vertex_count net.now)) }
-        ensures order { OnOk result (IsInOrder net.now self.new) }
+        requires net { IsNetwork arcs.now }
+        requires units { length flow.now.pins ≡ length arcs.now.pins }
+        requires from { from < vertex_count arcs.now }
+        requires each { (length labels.far ≡ vertex_count arcs.now) × (length labels.hops ≡ vertex_count arcs.now) }
+        requires kept { AreKept arcs.now flow.now (at_vertex labels.far) (count_at labels.hops) self.old.marks.items }
+        requires order { IsInOrder arcs.now self.old }
+        ensures kept { IfOk result (λ labels. AreKept arcs.now flow.now (at_vertex labels.far) (count_at labels.hops) self.new.marks.items) }
+        ensures each { IfOk result (λ labels. (length labels.far ≡ vertex_count arcs.now) × (length labels.hops ≡ vertex_count arcs.now)) }
+        ensures order { OnOk result (IsInOrder arcs.now self.new) }
     {
         let marks = self.marks.as_mut_slice();
-        lift(net, incidence, flow, labels, marks, from, &mut self.room)
+        lift(arcs, flow, labels, marks, from, &mut self.room)
     }
 
     /// The labels before a round, in which this vertex sends: it isn't stale any more.
     pub(crate) fn ready(
         &mut self,
-        net: &Net,
-        incidence: &Incidence,
+        arcs: &Arcs<'_>,
         flow: &Flow,
         labels: Labels,
         from: u32,
     ) -> Result<Labels, NoMemory>
-        requires net { IsNetwork net.now }
-        requires incidence { AreIncidences net.now incidence.now }
-        requires flow { IsPartFlow net.now flow.now }
-        requires wanted { SomeMirrorWants net.now flow.now }
-        requires from { from < vertex_count net.now }
-        requires each { (length labels.far ≡ vertex_count net.now) × (length labels.hops ≡ vertex_count net.now) }
-        requires kept { AreKept net.now flow.now (at_vertex labels.far) (count_at labels.hops) self.old.marks.items }
-        requires order { IsInOrder net.now self.old }
-        ensures kept { IfOk result (λ labels. AreKept net.now flow.now (at_vertex labels.far) (count_at labels.hops) self.new.marks.items) }
+        requires net { IsNetwork arcs.now }
+        requires flow { IsPartFlow arcs.now flow.now }
+        requires wanted { SomeMirrorWants arcs.now flow.now }
+        requires from { from < vertex_count arcs.now }
+        requires each { (length labels.far ≡ vertex_count arcs.now) × (length labels.hops ≡ vertex_count arcs.now) }
+        requires kept { AreKept arcs.now flow.now (at_vertex labels.far) (count_at labels.hops) self.old.marks.items }
+        requires order { IsInOrder arcs.now self.old }
+        ensures kept { IfOk result (λ labels. AreKept arcs.now flow.now (at_vertex labels.far) (count_at labels.hops) self.new.marks.items) }
         ensures fresh { OnOk result (mark_at self.new.marks.items from ≡ false) }
-        ensures each { IfOk result (λ labels. (length labels.far ≡ vertex_count net.now) × (length labels.hops ≡ vertex_count net.now)) }
-        ensures order { OnOk result (IsInOrder net.now self.new) }
+        ensures each { IfOk result (λ labels. (length labels.far ≡ vertex_count arcs.now) × (length labels.hops ≡ vertex_count arcs.now)) }
+        ensures order { OnOk result (IsInOrder arcs.now self.new) }
     {
         if !is_marked(self.marks.as_slice(), from) {
             return Ok(labels);
         }
-        let labels = self.raise_near(net, incidence, flow, labels, from)?;
+        let labels = self.raise_near(arcs, flow, labels, from)?;
         if !is_marked(self.marks.as_slice(), from) {
             return Ok(labels);
         }
-        self.settle_all(net, incidence, flow, labels)
+        self.settle_all(arcs, flow, labels)
     }
 
     // Lists the marked vertices anew where the list is longer than all of them can be.
@@ -174,30 +168,27 @@ impl Mender {
     pub(crate) fn spoil(
         &mut self,
         alloc: Global,
-        net: &Net,
-        incidence: &Incidence,
+        arcs: &Arcs<'_>,
         flow: &Flow,
         labels: &Labels,
         path: &[Step],
         from: u32,
     ) -> Result<(), NoMemory>
-        requires net { IsNetwork net.now }
-        requires incidence { AreIncidences net.now incidence.now }
-        requires units { length flow.now.pins ≡ length net.now.pins }
-        requires each { (length labels.now.far ≡ vertex_count net.now) × (length labels.now.hops ≡ vertex_count net.now) }
-        requires left { AreLeftByRound net.now flow.now (at_vertex labels.now.far) (count_at labels.now.hops) self.old.marks.items from (map way_of path.now) }
-        requires near { AreNear net.now (at_vertex labels.now.far) (count_at labels.now.hops) }
-        requires order { IsInOrder net.now self.old }
-        ensures kept { OnOk result (AreKept net.now flow.now (at_vertex labels.now.far) (count_at labels.now.hops) self.new.marks.items) }
-        ensures order { OnOk result (IsInOrder net.now self.new) }
+        requires net { IsNetwork arcs.now }
+        requires units { length flow.now.pins ≡ length arcs.now.pins }
+        requires each { (length labels.now.far ≡ vertex_count arcs.now) × (length labels.now.hops ≡ vertex_count arcs.now) }
+        requires left { AreLeftByRound arcs.now flow.now (at_vertex labels.now.far) (count_at labels.now.hops) self.old.marks.items from (map way_of path.now) }
+        requires near { AreNear arcs.now (at_vertex labels.now.far) (count_at labels.now.hops) }
+        requires order { IsInOrder arcs.now self.old }
+        ensures kept { OnOk result (AreKept arcs.now flow.now (at_vertex labels.now.far) (count_at labels.now.hops) self.new.marks.items) }
+        ensures order { OnOk result (IsInOrder arcs.now self.new) }
     {
-        self.list(alloc, net)?;
+        self.list(alloc, arcs.net())?;
         self.pending.clear();
         let served = look_along(path, from, &mut self.pending)?;
         self.pending.push(served)?;
         spread(
-            net,
-            incidence,
+            arcs,
             flow,
             labels,
             served,

@@ -15,17 +15,17 @@ ghost use Rattle.std.specs.List.{flat_map};
 ghost use Rattle.stage_flow.specs.Residual.{ways_on, vertex_count};
 ghost use Rattle.stage_flow.specs.LawsOfWalks.{AreLabels};
 ghost use Rattle.stage_flow.specs.LawsOfSending.{IsPartFlow, SomeMirrorWants};
-ghost use Rattle.stage_flow.specs.Given.{IsNetwork, AreIncidences, at_vertex, count_at, near_arc};
+ghost use Rattle.stage_flow.specs.Given.{IsNetwork, at_vertex, count_at, near_arc};
 ghost use Rattle.stage_flow.specs.Sending.{way_of, ways_by, ways_near};
 ghost use Rattle.stage_flow.specs.Passes.{mark_at, reach_by, standing};
 ghost use Rattle.stage_flow.specs.Waiting.{waiting};
 ghost use Rattle.stage_flow.specs.Mending.{cost, offer_by, offers_of, AreAdded, IsFirst, NoneIsStale, IsOffered, IsOfferedBy, AreHeld, AreRightOutside, AreMarked, AreAhead};
 
-use crate::incidence::Incidence;
+use crate::arcs::Arcs;
 use crate::offers::{Offer, Queue, is_marked};
 use crate::search::Labels;
 use crate::ways::{Near, Step, is_there, step_in, step_out};
-use flow_net::{Flow, Net};
+use flow_net::Flow;
 use net_base::{List, NoMemory};
 use std::mem;
 
@@ -107,24 +107,22 @@ fn push_from(
 
 // Adds the offers of the residual arcs at these vertices.
 fn push_all(
-    net: &Net,
-    incidence: &Incidence,
+    arcs: &Arcs<'_>,
     flow: &Flow,
     labels: &Labels,
     stale: &[bool],
     vertices: &[u32],
     queue: &mut Queue,
 ) -> Result<(), NoMemory>
-    requires net { IsNetwork net.now }
-    requires incidence { AreIncidences net.now incidence.now }
-    requires held { AreHeld net.now flow.now labels.now.far labels.now.hops stale.now }
-    requires vertices { All (λ vertex. vertex < vertex_count net.now) vertices.now }
-    ensures { OnOk result (AreAdded (flat_map (λ vertex. offers_of (standing labels.now.far labels.now.hops) stale.now (ways_near net.now flow.now vertex)) vertices.now) (waiting queue.old) (waiting queue.new)) }
+    requires net { IsNetwork arcs.now }
+    requires held { AreHeld arcs.now flow.now labels.now.far labels.now.hops stale.now }
+    requires vertices { All (λ vertex. vertex < vertex_count arcs.now) vertices.now }
+    ensures { OnOk result (AreAdded (flat_map (λ vertex. offers_of (standing labels.now.far labels.now.hops) stale.now (ways_near arcs.now flow.now vertex)) vertices.now) (waiting queue.old) (waiting queue.new)) }
 {
     let far = labels.far.as_slice();
     let hops = labels.hops.as_slice();
     for vertex in vertices {
-        let nears = incidence.at(*vertex);
+        let nears = arcs.at(*vertex);
         push_from(flow, far, hops, stale, *vertex, nears, queue)?;
     }
     Ok(())
@@ -179,28 +177,26 @@ fn accept(far: &mut [i64], hops: &mut [u32], stale: &mut [bool], offer: Offer)
 
 // Puts the labels of all stale vertices right, and no vertex is stale any more. After `NoMemory` labels and marks are of no use.
 fn put_right(
-    net: &Net,
-    incidence: &Incidence,
+    arcs: &Arcs<'_>,
     flow: &Flow,
     labels: &mut Labels,
     stale: &mut [bool],
     vertices: &[u32],
     queue: &mut Queue,
 ) -> Result<(), NoMemory>
-    requires net { IsNetwork net.now }
-    requires incidence { AreIncidences net.now incidence.now }
-    requires flow { IsPartFlow net.now flow.now }
-    requires wanted { SomeMirrorWants net.now flow.now }
-    requires each { (length labels.old.far ≡ vertex_count net.now) × (length labels.old.hops ≡ vertex_count net.now) × (length stale.old ≡ vertex_count net.now) }
-    requires right { AreRightOutside net.now flow.now (at_vertex labels.old.far) (count_at labels.old.hops) stale.old }
-    requires marked { AreMarked net.now stale.old vertices.now }
-    ensures labels { OnOk result (AreLabels net.now flow.now (at_vertex labels.new.far) (count_at labels.new.hops)) }
-    ensures each { OnOk result ((length labels.new.far ≡ vertex_count net.now) × (length labels.new.hops ≡ vertex_count net.now)) }
+    requires net { IsNetwork arcs.now }
+    requires flow { IsPartFlow arcs.now flow.now }
+    requires wanted { SomeMirrorWants arcs.now flow.now }
+    requires each { (length labels.old.far ≡ vertex_count arcs.now) × (length labels.old.hops ≡ vertex_count arcs.now) × (length stale.old ≡ vertex_count arcs.now) }
+    requires right { AreRightOutside arcs.now flow.now (at_vertex labels.old.far) (count_at labels.old.hops) stale.old }
+    requires marked { AreMarked arcs.now stale.old vertices.now }
+    ensures labels { OnOk result (AreLabels arcs.now flow.now (at_vertex labels.new.far) (count_at labels.new.hops)) }
+    ensures each { OnOk result ((length labels.new.far ≡ vertex_count arcs.now) × (length labels.new.hops ≡ vertex_count arcs.now)) }
     ensures none { OnOk result ((vertex : ℕ) → mark_at stale.new vertex ≡ false) }
     ensures length { length stale.new ≡ length stale.old }
 {
     queue.clear();
-    push_all(net, incidence, flow, labels, stale, vertices, queue)?;
+    push_all(arcs, flow, labels, stale, vertices, queue)?;
     let mut far = mem::replace(&mut labels.far, List::new(queue.alloc)).into_vec();
     let mut hops = mem::replace(&mut labels.hops, List::new(queue.alloc)).into_vec();
     let mut seen = 0;
@@ -213,7 +209,7 @@ fn put_right(
             hops.as_slice(),
             stale,
             vertex,
-            incidence.at(vertex),
+            arcs.at(vertex),
             queue,
         )?;
     }
@@ -225,27 +221,25 @@ fn put_right(
 /// The right labels, from labels that are right but at the stale vertices, which stand in `vertices`; and no vertex is stale any
 /// more. The queue is emptied first, and keeps its room from call to call. After `NoMemory` the marks are of no use.
 pub(crate) fn settle(
-    net: &Net,
-    incidence: &Incidence,
+    arcs: &Arcs<'_>,
     flow: &Flow,
     labels: Labels,
     stale: &mut [bool],
     vertices: &[u32],
     queue: &mut Queue,
 ) -> Result<Labels, NoMemory>
-    requires net { IsNetwork net.now }
-    requires incidence { AreIncidences net.now incidence.now }
-    requires flow { IsPartFlow net.now flow.now }
-    requires wanted { SomeMirrorWants net.now flow.now }
-    requires each { (length labels.far ≡ vertex_count net.now) × (length labels.hops ≡ vertex_count net.now) × (length stale.old ≡ vertex_count net.now) }
-    requires right { AreRightOutside net.now flow.now (at_vertex labels.far) (count_at labels.hops) stale.old }
-    requires marked { AreMarked net.now stale.old vertices.now }
-    ensures labels { IfOk result (λ labels. AreLabels net.now flow.now (at_vertex labels.far) (count_at labels.hops)) }
-    ensures each { IfOk result (λ labels. (length labels.far ≡ vertex_count net.now) × (length labels.hops ≡ vertex_count net.now)) }
+    requires net { IsNetwork arcs.now }
+    requires flow { IsPartFlow arcs.now flow.now }
+    requires wanted { SomeMirrorWants arcs.now flow.now }
+    requires each { (length labels.far ≡ vertex_count arcs.now) × (length labels.hops ≡ vertex_count arcs.now) × (length stale.old ≡ vertex_count arcs.now) }
+    requires right { AreRightOutside arcs.now flow.now (at_vertex labels.far) (count_at labels.hops) stale.old }
+    requires marked { AreMarked arcs.now stale.old vertices.now }
+    ensures labels { IfOk result (λ labels. AreLabels arcs.now flow.now (at_vertex labels.far) (count_at labels.hops)) }
+    ensures each { IfOk result (λ labels. (length labels.far ≡ vertex_count arcs.now) × (length labels.hops ≡ vertex_count arcs.now)) }
     ensures none { OnOk result ((vertex : ℕ) → mark_at stale.new vertex ≡ false) }
     ensures length { length stale.new ≡ length stale.old }
 {
     let mut labels = labels;
-    put_right(net, incidence, flow, &mut labels, stale, vertices, queue)?;
+    put_right(arcs, flow, &mut labels, stale, vertices, queue)?;
     Ok(labels)
 }

@@ -4,6 +4,7 @@ ghost use Rattle.std.specs.Prelude.{◌≡◌, ◌+◌, ◌<◌, IfOk, OnOk, OnE
 ghost use Rattle.stage_flow.specs.Rounds.{flow_after, no_units as the_flow_of_nothing};
 ghost use Rattle.stage_flow.specs.Given.{IsNetwork, ArePotentials, AreIncidences};
 
+use crate::arcs::Arcs;
 use crate::incidence::Incidence;
 use crate::potentials::{first_potentials, negated};
 use crate::search::find_labels;
@@ -76,20 +77,12 @@ impl Progress {
         ensures arcs { OnOk result (AreIncidences net.now self.new.incidence) }
         ensures err { OnErr result (self.new ≡ self.old) }
     {
-        let labels = find_labels(alloc, net, &self.incidence, &self.flow, &self.potentials)?;
+        let arcs = Arcs::new(net, &self.incidence);
+        let labels = find_labels(alloc, &arcs, &self.flow, &self.potentials)?;
         let potentials = negated(alloc, labels.far.as_slice())?;
         let from = sender(net, self.sent);
         let mut room = PathRoom::new(alloc, net)?;
-        send(
-            alloc,
-            net,
-            &self.incidence,
-            &labels,
-            &[],
-            from,
-            &mut self.flow,
-            &mut room,
-        )?;
+        send(alloc, &arcs, &labels, &[], from, &mut self.flow, &mut room)?;
         self.potentials = potentials;
         self.sent += 1;
         Ok(())

@@ -6,17 +6,17 @@
 
 ghost use Rattle.std.specs.Prelude.{◌≡◌, ◌<◌, ◌/◌, ◌^◌, ℕ, true, All, IsTrue, length, OnOk, IfOk};
 ghost use Rattle.stage_flow.specs.Residual.{ways_on, ways_of, vertex_count};
-ghost use Rattle.stage_flow.specs.Given.{IsNetwork, AreIncidences, at_vertex, count_at, near_arc};
+ghost use Rattle.stage_flow.specs.Given.{IsNetwork, at_vertex, count_at, near_arc};
 ghost use Rattle.stage_flow.specs.Sending.{ways_by, IsRead, AreRead};
 ghost use Rattle.stage_flow.specs.Passes.{mark_at};
 ghost use Rattle.stage_flow.specs.Staleness.{AreKept};
 ghost use Rattle.stage_flow.specs.Raising.{lifted, AreTracked, AreAtRest, StaysFitting, MayRise, AreKeptBut};
 
+use crate::arcs::Arcs;
 use crate::heights::{ABOVE_ALL, Room, is_level, search};
-use crate::incidence::Incidence;
 use crate::search::Labels;
 use crate::ways::{Near, is_there, step_out};
-use flow_net::{Flow, Net};
+use flow_net::Flow;
 use net_base::{List, NoMemory};
 
 // The number of arcs of a raised label.
@@ -75,8 +75,7 @@ fn stay_fitting_from(
 
 // Whether a vertex may rise.
 fn may_rise(
-    net: &Net,
-    incidence: &Incidence,
+    arcs: &Arcs<'_>,
     flow: &Flow,
     labels: &Labels,
     marks: &[bool],
@@ -84,12 +83,11 @@ fn may_rise(
     floor: u32,
     vertex: u32,
 ) -> bool
-    requires read { AreRead net.now flow.now labels.now.far labels.now.hops }
-    requires incidence { AreIncidences net.now incidence.now }
-    requires marks { length marks.now ≡ vertex_count net.now }
-    requires heights { length heights.now ≡ vertex_count net.now }
-    requires vertex { vertex < vertex_count net.now }
-    ensures { IsTrue result → MayRise net.now flow.now (at_vertex labels.now.far) (count_at labels.now.hops) marks.now heights.now floor vertex }
+    requires read { AreRead arcs.now flow.now labels.now.far labels.now.hops }
+    requires marks { length marks.now ≡ vertex_count arcs.now }
+    requires heights { length heights.now ≡ vertex_count arcs.now }
+    requires vertex { vertex < vertex_count arcs.now }
+    ensures { IsTrue result → MayRise arcs.now flow.now (at_vertex labels.now.far) (count_at labels.now.hops) marks.now heights.now floor vertex }
 {
     if heights[vertex as usize] <= floor {
         return true;
@@ -100,14 +98,13 @@ fn may_rise(
     if raised(labels.hops.as_slice(), heights, floor, vertex) >= marks.len() as u64 {
         return false;
     }
-    let nears = incidence.at(vertex);
+    let nears = arcs.at(vertex);
     stay_fitting_from(flow, labels, heights, floor, vertex, nears)
 }
 
 // Whether all these vertices may.
 fn may_all_rise(
-    net: &Net,
-    incidence: &Incidence,
+    arcs: &Arcs<'_>,
     flow: &Flow,
     labels: &Labels,
     marks: &[bool],
@@ -115,15 +112,14 @@ fn may_all_rise(
     reached: &[u32],
     floor: u32,
 ) -> bool
-    requires read { AreRead net.now flow.now labels.now.far labels.now.hops }
-    requires incidence { AreIncidences net.now incidence.now }
-    requires marks { length marks.now ≡ vertex_count net.now }
-    requires heights { length heights.now ≡ vertex_count net.now }
-    requires reached { All (λ vertex. vertex < vertex_count net.now) reached.now }
-    ensures { IsTrue result → All (MayRise net.now flow.now (at_vertex labels.now.far) (count_at labels.now.hops) marks.now heights.now floor) reached.now }
+    requires read { AreRead arcs.now flow.now labels.now.far labels.now.hops }
+    requires marks { length marks.now ≡ vertex_count arcs.now }
+    requires heights { length heights.now ≡ vertex_count arcs.now }
+    requires reached { All (λ vertex. vertex < vertex_count arcs.now) reached.now }
+    ensures { IsTrue result → All (MayRise arcs.now flow.now (at_vertex labels.now.far) (count_at labels.now.hops) marks.now heights.now floor) reached.now }
 {
     for vertex in reached {
-        if !may_rise(net, incidence, flow, labels, marks, heights, floor, *vertex) {
+        if !may_rise(arcs, flow, labels, marks, heights, floor, *vertex) {
             return false;
         }
     }
@@ -132,8 +128,7 @@ fn may_all_rise(
 
 // The floor that was found, if all vertices above it may rise, or one that no vertex is above.
 fn tested_floor(
-    net: &Net,
-    incidence: &Incidence,
+    arcs: &Arcs<'_>,
     flow: &Flow,
     labels: &Labels,
     marks: &[bool],
@@ -141,14 +136,13 @@ fn tested_floor(
     reached: &[u32],
     floor: u32,
 ) -> u32
-    requires read { AreRead net.now flow.now labels.now.far labels.now.hops }
-    requires incidence { AreIncidences net.now incidence.now }
-    requires marks { length marks.now ≡ vertex_count net.now }
-    requires heights { length heights.now ≡ vertex_count net.now }
+    requires read { AreRead arcs.now flow.now labels.now.far labels.now.hops }
+    requires marks { length marks.now ≡ vertex_count arcs.now }
+    requires heights { length heights.now ≡ vertex_count arcs.now }
     requires tracked { AreTracked heights.now reached.now }
-    ensures { (vertex : ℕ) → MayRise net.now flow.now (at_vertex labels.now.far) (count_at labels.now.hops) marks.now heights.now result vertex }
+    ensures { (vertex : ℕ) → MayRise arcs.now flow.now (at_vertex labels.now.far) (count_at labels.now.hops) marks.now heights.now result vertex }
 {
-    if may_all_rise(net, incidence, flow, labels, marks, heights, reached, floor) {
+    if may_all_rise(arcs, flow, labels, marks, heights, reached, floor) {
         return floor;
     }
     ABOVE_ALL
@@ -172,32 +166,28 @@ fn raise_all(hops: &mut [u32], heights: &mut [u32], reached: &[u32], floor: u32)
 
 /// Raises labels of marked vertices near a vertex. Marked vertices are dead then but for some of those in `room.reached`.
 pub(crate) fn raise(
-    net: &Net,
-    incidence: &Incidence,
+    arcs: &Arcs<'_>,
     flow: &Flow,
     labels: Labels,
     marks: &[bool],
     from: u32,
     room: &mut Room,
 ) -> Result<Labels, NoMemory>
-    requires net { IsNetwork net.now }
-    requires incidence { AreIncidences net.now incidence.now }
-    requires units { length flow.now.pins ≡ length net.now.pins }
-    requires each { (length labels.far ≡ vertex_count net.now) × (length labels.hops ≡ vertex_count net.now) × (length marks.now ≡ vertex_count net.now) }
-    requires kept { AreKept net.now flow.now (at_vertex labels.far) (count_at labels.hops) marks.now }
-    requires from { from < vertex_count net.now }
-    requires rest { AreAtRest net.now room.old.heights.items }
-    ensures kept { IfOk result (λ labels. AreKeptBut net.now flow.now (at_vertex labels.far) (count_at labels.hops) marks.now room.new.reached.items) }
-    ensures each { IfOk result (λ labels. (length labels.far ≡ vertex_count net.now) × (length labels.hops ≡ vertex_count net.now)) }
-    ensures low { OnOk result (All (λ vertex. vertex < vertex_count net.now) room.new.reached.items) }
-    ensures rest { OnOk result (AreAtRest net.now room.new.heights.items) }
+    requires net { IsNetwork arcs.now }
+    requires units { length flow.now.pins ≡ length arcs.now.pins }
+    requires each { (length labels.far ≡ vertex_count arcs.now) × (length labels.hops ≡ vertex_count arcs.now) × (length marks.now ≡ vertex_count arcs.now) }
+    requires kept { AreKept arcs.now flow.now (at_vertex labels.far) (count_at labels.hops) marks.now }
+    requires from { from < vertex_count arcs.now }
+    requires rest { AreAtRest arcs.now room.old.heights.items }
+    ensures kept { IfOk result (λ labels. AreKeptBut arcs.now flow.now (at_vertex labels.far) (count_at labels.hops) marks.now room.new.reached.items) }
+    ensures each { IfOk result (λ labels. (length labels.far ≡ vertex_count arcs.now) × (length labels.hops ≡ vertex_count arcs.now)) }
+    ensures low { OnOk result (All (λ vertex. vertex < vertex_count arcs.now) room.new.reached.items) }
+    ensures rest { OnOk result (AreAtRest arcs.now room.new.heights.items) }
 {
-    let floor = search(net, incidence, flow, &labels, marks, from, room)?;
+    let floor = search(arcs, flow, &labels, marks, from, room)?;
     let heights = room.heights.as_slice();
     let reached = room.reached.as_slice();
-    let floor = tested_floor(
-        net, incidence, flow, &labels, marks, heights, reached, floor,
-    );
+    let floor = tested_floor(arcs, flow, &labels, marks, heights, reached, floor);
     let Labels { far, hops } = labels;
     let mut hops = hops.into_vec();
     raise_all(

@@ -6,8 +6,7 @@
 ghost use Rattle.std.specs.Prelude.{◌≡◌, ◌<◌, ◌&&◌, ℕ, not, nat_eq, [], All, length, IfOk, OnOk};
 ghost use Rattle.std.specs.List.{IsDistinct};
 ghost use Rattle.std.proofs.Props.{props};
-ghost use Rattle.indexmap.specs.IndexSet.{insert_key};
-ghost use Rattle.net_base.specs.Keys.{is_among};
+ghost use Rattle.net_base.specs.Keys.{is_among, with_key};
 ghost use Rattle.stage_flow.specs.Residual.{vertex_count};
 ghost use Rattle.stage_flow.specs.Passes.{mark_at};
 ghost use Rattle.stage_flow.specs.Sending.{SayWhoIsThere};
@@ -78,7 +77,7 @@ impl Reached {
     pub(crate) fn insert(&mut self, vertex: u32) -> Result<(), NoMemory>
         requires { vertex < length self.old.marks.items }
         ensures each { length self.new.marks.items ≡ length self.old.marks.items }
-        ensures keys { OnOk result (self.new.keys.items ≡ insert_key nat_eq self.old.keys.items vertex) }
+        ensures keys { OnOk result (self.new.keys.items ≡ with_key nat_eq self.old.keys.items vertex) }
     {
         if !self.marks[vertex as usize] {
             self.keys.push(vertex)?;

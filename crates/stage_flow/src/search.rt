@@ -7,14 +7,15 @@
 
 ghost use Rattle.std.specs.Prelude.{◌≡◌, ◌<◌, ℕ, suc, true, false, length, IfOk};
 ghost use Rattle.stage_flow.specs.Residual.{vertex_count};
-ghost use Rattle.stage_flow.specs.Given.{IsNetwork, ArePotentials, AreIncidences, at_vertex, count_at};
+ghost use Rattle.stage_flow.specs.Given.{IsNetwork, ArePotentials, at_vertex, count_at};
 ghost use Rattle.stage_flow.specs.LawsOfWalks.{AreLabels};
 ghost use Rattle.stage_flow.specs.LawsOfSending.{IsPartFlow, SomeMirrorWants};
 ghost use Rattle.stage_flow.specs.LawsOfEpochs.{AreLabelsFromSource};
 ghost use Rattle.stage_flow.specs.Passes.{mark_at};
 
+use crate::arcs::Arcs;
 use crate::beginning::{first_labels, marked, others_of};
-use crate::incidence::{Incidence, vertices};
+use crate::incidence::vertices;
 use crate::last_arcs::are_lengths;
 use crate::mending::settle;
 use crate::mirrors::wanting_of;
@@ -38,19 +39,18 @@ pub(crate) struct Labels {
 /// but those of the mirrors that want are put right.
 pub(crate) fn find_labels(
     alloc: Global,
-    net: &Net,
-    incidence: &Incidence,
+    arcs: &Arcs<'_>,
     flow: &Flow,
     potentials: &List<i64>,
 ) -> Result<Labels, NoMemory>
-    requires net { IsNetwork net.now }
-    requires incidence { AreIncidences net.now incidence.now }
-    requires flow { IsPartFlow net.now flow.now }
-    requires wanted { SomeMirrorWants net.now flow.now }
-    requires potentials { ArePotentials net.now flow.now potentials.now }
-    ensures labels { IfOk result (λ labels. AreLabels net.now flow.now (at_vertex labels.far) (count_at labels.hops)) }
-    ensures each { IfOk result (λ labels. (length labels.far ≡ vertex_count net.now) × (length labels.hops ≡ vertex_count net.now)) }
+    requires net { IsNetwork arcs.now }
+    requires flow { IsPartFlow arcs.now flow.now }
+    requires wanted { SomeMirrorWants arcs.now flow.now }
+    requires potentials { ArePotentials arcs.now flow.now potentials.now }
+    ensures labels { IfOk result (λ labels. AreLabels arcs.now flow.now (at_vertex labels.far) (count_at labels.hops)) }
+    ensures each { IfOk result (λ labels. (length labels.far ≡ vertex_count arcs.now) × (length labels.hops ≡ vertex_count arcs.now)) }
 {
+    let net = arcs.net();
     let wanting = wanting_of(alloc, net, flow)?;
     let wanting = wanting.as_slice();
     let labels = first_labels(alloc, wanting, potentials.as_slice())?;
@@ -58,8 +58,7 @@ pub(crate) fn find_labels(
     let vertices = marked(alloc, net, stale.as_slice())?;
     let mut queue = Queue::new(alloc)?;
     settle(
-        net,
-        incidence,
+        arcs,
         flow,
         labels,
         stale.as_mut_slice(),
@@ -71,15 +70,14 @@ pub(crate) fn find_labels(
 // Lengths by a search from the source.
 fn search_on(
     alloc: Global,
-    net: &Net,
-    incidence: &Incidence,
+    arcs: &Arcs<'_>,
     flow: &Flow,
     potentials: &List<i64>,
 ) -> Result<Labels, NoMemory> {
     let potentials = potentials.as_slice();
-    let mut keys = Keys::new(alloc, vertices(net))?;
+    let mut keys = Keys::new(alloc, vertices(arcs.net()))?;
     keys.offer(0, 0, 0)?;
-    keys.settle_all(net, incidence, flow, potentials)?;
+    keys.settle_all(arcs, flow, potentials)?;
     let far = lengths_by(alloc, potentials, potential(potentials, 0), &keys)?;
     Ok(Labels {
         far: List::from_vec(far),
@@ -102,20 +100,19 @@ fn source_alone(alloc: Global, net: &Net) -> Result<Vec<bool>, NoMemory>
 /// their test, passes find them.
 pub(crate) fn find_lengths(
     alloc: Global,
-    net: &Net,
-    incidence: &Incidence,
+    arcs: &Arcs<'_>,
     flow: &Flow,
     potentials: &List<i64>,
 ) -> Result<Labels, NoMemory>
-    requires net { IsNetwork net.now }
-    requires incidence { AreIncidences net.now incidence.now }
-    requires pins { 0 < length net.now.pins }
-    requires flow { IsPartFlow net.now flow.now }
-    requires potentials { ArePotentials net.now flow.now potentials.now }
-    ensures labels { IfOk result (λ labels. AreLabelsFromSource net.now flow.now (at_vertex labels.far) (count_at labels.hops)) }
-    ensures each { IfOk result (λ labels. (length labels.far ≡ vertex_count net.now) × (length labels.hops ≡ vertex_count net.now)) }
+    requires net { IsNetwork arcs.now }
+    requires pins { 0 < length arcs.now.pins }
+    requires flow { IsPartFlow arcs.now flow.now }
+    requires potentials { ArePotentials arcs.now flow.now potentials.now }
+    ensures labels { IfOk result (λ labels. AreLabelsFromSource arcs.now flow.now (at_vertex labels.far) (count_at labels.hops)) }
+    ensures each { IfOk result (λ labels. (length labels.far ≡ vertex_count arcs.now) × (length labels.hops ≡ vertex_count arcs.now)) }
 {
-    let labels = search_on(alloc, net, incidence, flow, potentials)?;
+    let net = arcs.net();
+    let labels = search_on(alloc, arcs, flow, potentials)?;
     if are_lengths(
         alloc,
         net,

@@ -4,18 +4,18 @@ ghost use Rattle.std.specs.Prelude.{◌≡◌, ◌<◌, ◌-◌, ◌^◌, Some, 
 ghost use Rattle.flow_net.specs.declared.net.Units.{Units as TheUnits};
 ghost use Rattle.stage_flow.specs.Residual.{vertex_count};
 ghost use Rattle.stage_flow.specs.Rounds.{sender, path_of, after_round};
-ghost use Rattle.stage_flow.specs.Given.{IsNetwork, AreIncidences, at_vertex, count_at};
+ghost use Rattle.stage_flow.specs.Given.{IsNetwork, at_vertex, count_at};
 ghost use Rattle.stage_flow.specs.Rounds as rounds;
 ghost use Rattle.stage_flow.specs.LawsOfWalks.{HasUnits};
 ghost use Rattle.stage_flow.specs.Passes.{mark_at};
 ghost use Rattle.stage_flow.specs.Sending.{way_of, side, HasRoom};
 ghost use Rattle.stage_flow.specs.Staleness.{AreKept};
 
-use crate::incidence::Incidence;
+use crate::arcs::Arcs;
 use crate::search::Labels;
 use crate::tight::{PathRoom, find_path};
 use crate::ways::Step;
-use flow_net::{Flow, Net, Units};
+use flow_net::{Flow, Units};
 use net_base::{List, NoMemory};
 use std::alloc::Global;
 use std::mem::replace;
@@ -66,29 +66,27 @@ fn send_along(units: &mut [Units], path: &[Step])
 /// the flow is unchanged.
 pub(crate) fn send(
     alloc: Global,
-    net: &Net,
-    incidence: &Incidence,
+    arcs: &Arcs<'_>,
     labels: &Labels,
     marks: &[bool],
     from: u32,
     flow: &mut Flow,
     room: &mut PathRoom,
 ) -> Result<(), NoMemory>
-    requires net { IsNetwork net.now }
-    requires incidence { AreIncidences net.now incidence.now }
-    requires units { HasUnits net.now flow.old }
-    requires kept { AreKept net.now flow.old (at_vertex labels.now.far) (count_at labels.now.hops) marks.now }
+    requires net { IsNetwork arcs.now }
+    requires units { HasUnits arcs.now flow.old }
+    requires kept { AreKept arcs.now flow.old (at_vertex labels.now.far) (count_at labels.now.hops) marks.now }
     requires fresh { mark_at marks.now from ≡ false }
-    requires each { (length labels.now.far ≡ vertex_count net.now) × (length labels.now.hops ≡ vertex_count net.now) }
-    requires sender { sender net.now flow.old ≡ Some from }
+    requires each { (length labels.now.far ≡ vertex_count arcs.now) × (length labels.now.hops ≡ vertex_count arcs.now) }
+    requires sender { sender arcs.now flow.old ≡ Some from }
     requires room { All (λ (units : TheUnits). (units.forward < 2 ^ 32 - 1) × (units.back < 2 ^ 32 - 1)) flow.old.pins }
-    requires reached { length room.old.reached.marks.items ≡ vertex_count net.now }
-    ensures reached { length room.new.reached.marks.items ≡ vertex_count net.now }
-    ensures ok { OnOk result (flow.new ≡ after_round net.now flow.old) }
-    ensures path { OnOk result (map way_of room.new.path.items ≡ path_of net.now flow.old (Some from)) }
+    requires reached { length room.old.reached.marks.items ≡ vertex_count arcs.now }
+    ensures reached { length room.new.reached.marks.items ≡ vertex_count arcs.now }
+    ensures ok { OnOk result (flow.new ≡ after_round arcs.now flow.old) }
+    ensures path { OnOk result (map way_of room.new.path.items ≡ path_of arcs.now flow.old (Some from)) }
     ensures err { OnErr result (flow.new ≡ flow.old) }
 {
-    find_path(net, incidence, flow, labels, marks, from, room)?;
+    find_path(arcs, flow, labels, marks, from, room)?;
     // All memory is taken, so from here on nothing fails.
     let pins = replace(&mut flow.pins, List::new(alloc));
     let mut units = pins.into_vec();

@@ -4,8 +4,9 @@
 //! of arcs; the slack of a residual arc is how much more the potential rises on it than it is long. Nothing is promised of the
 //! keys: who asks for lengths tests them.
 
+use crate::arcs::Arcs;
 use crate::frontier::Frontier;
-use crate::incidence::{Incidence, mirror};
+use crate::incidence::{mirror, vertices};
 use flow_net::{Flow, Net};
 use net_base::NoMemory;
 use std::alloc::Global;
@@ -136,11 +137,12 @@ impl Keys {
     /// Settles all vertices that can be.
     pub(crate) fn settle_all(
         &mut self,
-        net: &Net,
-        incidence: &Incidence,
+        arcs: &Arcs<'_>,
         flow: &Flow,
         potentials: &[i64],
     ) -> Result<(), NoMemory> {
+        let net = arcs.net();
+        let count = vertices(net);
         // A vertex waits at the start, and once for each arc that may give it a key, forwards or back.
         let most = net
             .pins
@@ -151,8 +153,8 @@ impl Keys {
             let Some(vertex) = self.frontier.pop() else {
                 break;
             };
-            if self.settle(vertex as usize) && (vertex as usize) < incidence.len() {
-                for near in incidence.at(vertex) {
+            if self.settle(vertex as usize) && (vertex as usize) < count {
+                for near in arcs.at(vertex) {
                     if let Some(arc) = arc_at(net, flow, near.code / 2) {
                         self.relax(potentials, vertex as usize, arc)?;
                     }

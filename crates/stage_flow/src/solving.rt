@@ -12,6 +12,7 @@ ghost use Rattle.stage_flow.specs.Passes.{mark_at};
 ghost use Rattle.stage_flow.specs.Keeping.{IsInOrder};
 ghost use Rattle.stage_flow.specs.Given.{IsNetwork, ArePotentials, AreIncidences, at_vertex, count_at};
 
+use crate::arcs::Arcs;
 use crate::epochs::{epochs_from, epochs_without_pins};
 use crate::incidence::Incidence;
 use crate::mender::Mender;
@@ -40,48 +41,38 @@ pub struct Solved {
 // negated. The labels are kept from round to round, with those marked that rounds left stale.
 fn make_rounds(
     alloc: Global,
-    net: &Net,
-    incidence: &Incidence,
+    arcs: &Arcs<'_>,
     flow: &mut Flow,
     first: Labels,
     room: &mut PathRoom,
     mender: &mut Mender,
 ) -> Result<List<i64>, NoMemory>
-    requires net { IsNetwork net.now }
-    requires incidence { AreIncidences net.now incidence.now }
-    requires flow { flow.old ≡ flow_after net.now 0 }
-    requires labels { AreLabels net.now flow.old (at_vertex first.far) (count_at first.hops) }
-    requires each { (length first.far ≡ vertex_count net.now) × (length first.hops ≡ vertex_count net.now) }
-    requires room { length room.old.reached.marks.items ≡ vertex_count net.now }
-    requires order { IsInOrder net.now mender.old }
+    requires net { IsNetwork arcs.now }
+    requires flow { flow.old ≡ flow_after arcs.now 0 }
+    requires labels { AreLabels arcs.now flow.old (at_vertex first.far) (count_at first.hops) }
+    requires each { (length first.far ≡ vertex_count arcs.now) × (length first.hops ≡ vertex_count arcs.now) }
+    requires room { length room.old.reached.marks.items ≡ vertex_count arcs.now }
+    requires order { IsInOrder arcs.now mender.old }
     requires none { (vertex : ℕ) → mark_at mender.old.marks.items vertex ≡ false }
-    ensures flow { OnOk result (flow.new ≡ rounds_of net.now) }
-    ensures potentials { IfOk result (λ potentials. ArePotentials net.now flow.new potentials) }
+    ensures flow { OnOk result (flow.new ≡ rounds_of arcs.now) }
+    ensures potentials { IfOk result (λ potentials. ArePotentials arcs.now flow.new potentials) }
 {
+    let net = arcs.net();
     let mut labels = first;
     let mut sent = 0;
     while sent < net.drivers {
         let from = sender(net, sent);
-        labels = mender.ready(net, incidence, flow, labels, from)?;
+        labels = mender.ready(arcs, flow, labels, from)?;
         send(
             alloc,
-            net,
-            incidence,
+            arcs,
             &labels,
             mender.marks.as_slice(),
             from,
             flow,
             room,
         )?;
-        mender.spoil(
-            alloc,
-            net,
-            incidence,
-            flow,
-            &labels,
-            room.path.as_slice(),
-            from,
-        )?;
+        mender.spoil(alloc, arcs, flow, &labels, room.path.as_slice(), from)?;
         sent += 1;
     }
     negated(alloc, labels.far.as_slice())
@@ -106,18 +97,11 @@ fn all_rounds(alloc: Global, net: &Net, incidence: &Incidence) -> Result<Rounds,
     if net.drivers == 0 {
         return Ok(Rounds { flow, potentials });
     }
-    let first = find_labels(alloc, net, incidence, &flow, &potentials)?;
+    let arcs = Arcs::new(net, incidence);
+    let first = find_labels(alloc, &arcs, &flow, &potentials)?;
     let mut room = PathRoom::new(alloc, net)?;
     let mut mender = Mender::new(alloc, net)?;
-    let potentials = make_rounds(
-        alloc,
-        net,
-        incidence,
-        &mut flow,
-        first,
-        &mut room,
-        &mut mender,
-    )?;
+    let potentials = make_rounds(alloc, &arcs, &mut flow, first, &mut room, &mut mender)?;
     Ok(Rounds { flow, potentials })
 }
 
@@ -139,7 +123,8 @@ fn least_epochs(
     if net.pins.is_empty() {
         return epochs_without_pins(alloc, net);
     }
-    let labels = find_lengths(alloc, net, incidence, &rounds.flow, &rounds.potentials)?;
+    let arcs = Arcs::new(net, incidence);
+    let labels = find_lengths(alloc, &arcs, &rounds.flow, &rounds.potentials)?;
     epochs_from(alloc, net, labels.far.as_slice())
 }
 

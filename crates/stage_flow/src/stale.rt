@@ -9,17 +9,17 @@ ghost use Rattle.std.specs.Prelude.{◌≡◌, ◌<◌, ◌/◌, ◌++◌, ◌==
 ghost use Rattle.stage_flow.specs.Residual.{ways_on, ways_of, vertex_count};
 ghost use Rattle.stage_flow.specs.Rounds.{is_wanting};
 ghost use Rattle.stage_flow.specs.LawsOfWalks.{IsFitting};
-ghost use Rattle.stage_flow.specs.Given.{AreIncidences, at_vertex, count_at, near_arc};
+ghost use Rattle.stage_flow.specs.Given.{at_vertex, count_at, near_arc};
 ghost use Rattle.stage_flow.specs.Sending.{ways_by, IsRead, AreRead};
 ghost use Rattle.stage_flow.specs.Passes.{mark_at};
 ghost use Rattle.stage_flow.specs.Mending.{IsSound, AreMarked};
 ghost use Rattle.stage_flow.specs.Staleness.{SayWhoWaits, LeadsAway, NoneLeadsAway, leads_to, tails_of, AreSpread};
 
-use crate::incidence::Incidence;
+use crate::arcs::Arcs;
 use crate::offers::is_marked;
 use crate::search::Labels;
 use crate::ways::{Near, is_there, is_tight, step_in, step_out};
-use flow_net::{Flow, Net};
+use flow_net::Flow;
 use net_base::NoMemory;
 
 // Whether the residual arc on an arc that leaves a vertex is tight, and leads on to one that isn't marked.
@@ -66,76 +66,70 @@ fn waits(labels: &Labels, served: u32, vertex: u32) -> bool
 
 // Whether a vertex is sound.
 fn is_sound(
-    net: &Net,
-    incidence: &Incidence,
+    arcs: &Arcs<'_>,
     flow: &Flow,
     labels: &Labels,
     marks: &[bool],
     served: u32,
     vertex: u32,
 ) -> bool
-    requires read { AreRead net.now flow.now labels.now.far labels.now.hops }
-    requires incidence { AreIncidences net.now incidence.now }
-    requires marks { length marks.now ≡ vertex_count net.now }
-    requires waits { SayWhoWaits net.now flow.now (count_at labels.now.hops) marks.now served }
-    requires vertex { vertex < vertex_count net.now }
+    requires read { AreRead arcs.now flow.now labels.now.far labels.now.hops }
+    requires marks { length marks.now ≡ vertex_count arcs.now }
+    requires waits { SayWhoWaits arcs.now flow.now (count_at labels.now.hops) marks.now served }
+    requires vertex { vertex < vertex_count arcs.now }
     requires unmarked { mark_at marks.now vertex ≡ false }
-    ensures sound { IsTrue result → IsSound net.now flow.now (at_vertex labels.now.far) (count_at labels.now.hops) marks.now vertex }
-    ensures wants { is_wanting net.now flow.now vertex ≡ true → IsTrue result }
-    ensures none { result ≡ false → NoneLeadsAway (at_vertex labels.now.far) (count_at labels.now.hops) marks.now vertex (ways_of net.now flow.now) }
+    ensures sound { IsTrue result → IsSound arcs.now flow.now (at_vertex labels.now.far) (count_at labels.now.hops) marks.now vertex }
+    ensures wants { is_wanting arcs.now flow.now vertex ≡ true → IsTrue result }
+    ensures none { result ≡ false → NoneLeadsAway (at_vertex labels.now.far) (count_at labels.now.hops) marks.now vertex (ways_of arcs.now flow.now) }
 {
     if waits(labels, served, vertex) {
         return true;
     }
-    leads_away_from(flow, labels, marks, vertex, incidence.at(vertex))
+    leads_away_from(flow, labels, marks, vertex, arcs.at(vertex))
 }
 
 // Whether a vertex is stale, and isn't marked yet.
 fn is_newly_stale(
-    net: &Net,
-    incidence: &Incidence,
+    arcs: &Arcs<'_>,
     flow: &Flow,
     labels: &Labels,
     marks: &[bool],
     served: u32,
     vertex: u32,
 ) -> bool
-    requires read { AreRead net.now flow.now labels.now.far labels.now.hops }
-    requires incidence { AreIncidences net.now incidence.now }
-    requires marks { length marks.now ≡ vertex_count net.now }
-    requires waits { SayWhoWaits net.now flow.now (count_at labels.now.hops) marks.now served }
-    requires vertex { vertex < vertex_count net.now }
-    ensures stale { IsTrue result → (mark_at marks.now vertex ≡ false) × (is_wanting net.now flow.now vertex ≡ false) × NoneLeadsAway (at_vertex labels.now.far) (count_at labels.now.hops) marks.now vertex (ways_of net.now flow.now) }
-    ensures other { result ≡ false → (mark_at marks.now vertex ≡ true) ⊎ IsSound net.now flow.now (at_vertex labels.now.far) (count_at labels.now.hops) marks.now vertex }
+    requires read { AreRead arcs.now flow.now labels.now.far labels.now.hops }
+    requires marks { length marks.now ≡ vertex_count arcs.now }
+    requires waits { SayWhoWaits arcs.now flow.now (count_at labels.now.hops) marks.now served }
+    requires vertex { vertex < vertex_count arcs.now }
+    ensures stale { IsTrue result → (mark_at marks.now vertex ≡ false) × (is_wanting arcs.now flow.now vertex ≡ false) × NoneLeadsAway (at_vertex labels.now.far) (count_at labels.now.hops) marks.now vertex (ways_of arcs.now flow.now) }
+    ensures other { result ≡ false → (mark_at marks.now vertex ≡ true) ⊎ IsSound arcs.now flow.now (at_vertex labels.now.far) (count_at labels.now.hops) marks.now vertex }
 {
     if marks[vertex as usize] {
         return false;
     }
-    !is_sound(net, incidence, flow, labels, marks, served, vertex)
+    !is_sound(arcs, flow, labels, marks, served, vertex)
 }
 
 // The next of the vertices to be looked at that isn't sound, and isn't marked yet.
 fn next_stale(
-    net: &Net,
-    incidence: &Incidence,
+    arcs: &Arcs<'_>,
     flow: &Flow,
     labels: &Labels,
     marks: &[bool],
     served: u32,
     pending: &mut Vec<u32>,
 ) -> Option<u32>
-    requires read { AreRead net.now flow.now labels.now.far labels.now.hops }
-    requires incidence { AreIncidences net.now incidence.now }
-    requires marks { length marks.now ≡ vertex_count net.now }
-    requires waits { SayWhoWaits net.now flow.now (count_at labels.now.hops) marks.now served }
-    requires low { All (λ vertex. vertex < vertex_count net.now) pending.old.items }
-    ensures found { IfSome result (λ vertex. (vertex < vertex_count net.now) × (mark_at marks.now vertex ≡ false) × (is_wanting net.now flow.now vertex ≡ false) × NoneLeadsAway (at_vertex labels.now.far) (count_at labels.now.hops) marks.now vertex (ways_of net.now flow.now)) }
-    ensures low { All (λ vertex. vertex < vertex_count net.now) pending.new.items }
-    ensures looked { (vertex : ℕ) → Contains pending.old.items vertex → Contains pending.new.items vertex ⊎ ((result ≡ Some vertex) ⊎ ((mark_at marks.now vertex ≡ true) ⊎ IsSound net.now flow.now (at_vertex labels.now.far) (count_at labels.now.hops) marks.now vertex)) }
+    requires read { AreRead arcs.now flow.now labels.now.far labels.now.hops }
+    requires marks { length marks.now ≡ vertex_count arcs.now }
+    requires waits { SayWhoWaits arcs.now flow.now (count_at labels.now.hops) marks.now served }
+    requires low { All (λ vertex. vertex < vertex_count arcs.now) pending.old.items }
+    ensures found { IfSome result (λ vertex. (vertex < vertex_count arcs.now) × (mark_at marks.now vertex ≡ false) × (is_wanting arcs.now flow.now vertex ≡ false) × NoneLeadsAway (at_vertex labels.now.far) (count_at labels.now.hops) marks.now vertex (ways_of arcs.now flow.now)) }
+    ensures low { All (λ vertex. vertex < vertex_count arcs.now) pending.new.items }
+    ensures looked { (vertex : ℕ) → Contains pending.old.items vertex → Contains pending.new.items vertex ⊎ ((result ≡ Some vertex) ⊎ ((mark_at marks.now vertex ≡ true) ⊎ IsSound arcs.now flow.now (at_vertex labels.now.far) (count_at labels.now.hops) marks.now vertex)) }
     ensures none { result ≡ None → pending.new.items ≡ [] }
 {
     while let Some(vertex) = pending.pop() {
-        if is_newly_stale(net, incidence, flow, labels, marks, served, vertex) {
+        if is_newly_stale(arcs, flow, labels, marks, served, vertex) {
             return Some(vertex);
         }
     }
@@ -179,8 +173,7 @@ pub(crate) fn push_tails(
 
 /// Finds the stale vertices, from those that are to be looked at: marks and lists them.
 pub(crate) fn spread(
-    net: &Net,
-    incidence: &Incidence,
+    arcs: &Arcs<'_>,
     flow: &Flow,
     labels: &Labels,
     served: u32,
@@ -188,19 +181,18 @@ pub(crate) fn spread(
     vertices: &mut Vec<u32>,
     pending: &mut Vec<u32>,
 ) -> Result<(), NoMemory>
-    requires read { AreRead net.now flow.now labels.now.far labels.now.hops }
-    requires incidence { AreIncidences net.now incidence.now }
-    requires marks { length marks.old ≡ vertex_count net.now }
-    requires waits { SayWhoWaits net.now flow.now (count_at labels.now.hops) marks.old served }
-    requires spread { AreSpread net.now flow.now (at_vertex labels.now.far) (count_at labels.now.hops) marks.old vertices.old.items pending.old.items }
+    requires read { AreRead arcs.now flow.now labels.now.far labels.now.hops }
+    requires marks { length marks.old ≡ vertex_count arcs.now }
+    requires waits { SayWhoWaits arcs.now flow.now (count_at labels.now.hops) marks.old served }
+    requires spread { AreSpread arcs.now flow.now (at_vertex labels.now.far) (count_at labels.now.hops) marks.old vertices.old.items pending.old.items }
     ensures each { length marks.new ≡ length marks.old }
-    ensures spread { OnOk result (AreSpread net.now flow.now (at_vertex labels.now.far) (count_at labels.now.hops) marks.new vertices.new.items []) }
+    ensures spread { OnOk result (AreSpread arcs.now flow.now (at_vertex labels.now.far) (count_at labels.now.hops) marks.new vertices.new.items []) }
     ensures empty { OnOk result (pending.new.items ≡ []) }
 {
-    while let Some(vertex) = next_stale(net, incidence, flow, labels, marks, served, pending) {
+    while let Some(vertex) = next_stale(arcs, flow, labels, marks, served, pending) {
         marks[vertex as usize] = true;
         vertices.push(vertex)?;
-        push_tails(flow, labels, vertex, incidence.at(vertex), pending)?;
+        push_tails(flow, labels, vertex, arcs.at(vertex), pending)?;
     }
     Ok(())
 }

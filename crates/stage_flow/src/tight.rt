@@ -8,15 +8,15 @@
 
 ghost use Rattle.std.specs.Prelude.{◌≡◌, ◌≤◌, ◌<◌, ◌-◌, ◌^◌, ◌⊎◌, ℕ, true, false, [], ◌∷◌, nat_eq, All, Contains, length, map, IfOk, OnOk, Some, None};
 ghost use Rattle.std.specs.Option.{option_map};
-ghost use Rattle.indexmap.specs.IndexSet.{insert_all};
+ghost use Rattle.net_base.specs.Keys.{with_keys};
 ghost use Rattle.stage_flow.specs.Residual.{ways_on, vertex_count};
 ghost use Rattle.stage_flow.specs.Rounds.{path_of, or_lesser};
 ghost use Rattle.stage_flow.specs.Passes.{mark_at};
 ghost use Rattle.stage_flow.specs.Staleness.{AreDead, AreKept};
-ghost use Rattle.stage_flow.specs.Given.{AreIncidences, at_vertex, count_at, near_arc};
+ghost use Rattle.stage_flow.specs.Given.{at_vertex, count_at, near_arc};
 ghost use Rattle.stage_flow.specs.Sending.{way_of, ways_by, IsRead, AreRead, AreReached, heads_of, comes_last, least_by};
 
-use crate::incidence::Incidence;
+use crate::arcs::Arcs;
 use crate::offers::is_marked;
 use crate::reached::Reached;
 use crate::search::Labels;
@@ -37,7 +37,7 @@ fn reach_over(
     requires read { IsRead flow.now labels.now.far labels.now.hops vertex near }
     requires among { near.other < length reached.old.marks.items }
     ensures each { length reached.new.marks.items ≡ length reached.old.marks.items }
-    ensures keys { OnOk result (reached.new.keys.items ≡ insert_all nat_eq reached.old.keys.items (heads_of (at_vertex labels.now.far) (count_at labels.now.hops) marks.now vertex (ways_on flow.now (near_arc vertex near)))) }
+    ensures keys { OnOk result (reached.new.keys.items ≡ with_keys nat_eq reached.old.keys.items (heads_of (at_vertex labels.now.far) (count_at labels.now.hops) marks.now vertex (ways_on flow.now (near_arc vertex near)))) }
 {
     let step = step_out(vertex, near);
     // Units lie farther apart than labels, and are read last.
@@ -59,7 +59,7 @@ fn reach_from(
     requires read { All (IsRead flow.now labels.now.far labels.now.hops vertex) nears.now }
     requires among { length labels.now.hops ≡ length reached.old.marks.items }
     ensures each { length reached.new.marks.items ≡ length reached.old.marks.items }
-    ensures keys { OnOk result (reached.new.keys.items ≡ insert_all nat_eq reached.old.keys.items (heads_of (at_vertex labels.now.far) (count_at labels.now.hops) marks.now vertex (ways_by vertex flow.now nears.now))) }
+    ensures keys { OnOk result (reached.new.keys.items ≡ with_keys nat_eq reached.old.keys.items (heads_of (at_vertex labels.now.far) (count_at labels.now.hops) marks.now vertex (ways_by vertex flow.now nears.now))) }
 {
     for near in nears {
         reach_over(flow, labels, marks, vertex, *near, reached)?;
@@ -69,28 +69,26 @@ fn reach_from(
 
 // Adds all unmarked vertices that tight arcs reach from a vertex that alone is there.
 fn reach_all(
-    net: &Net,
-    incidence: &Incidence,
+    arcs: &Arcs<'_>,
     flow: &Flow,
     labels: &Labels,
     marks: &[bool],
     from: u32,
     reached: &mut Reached,
 ) -> Result<(), NoMemory>
-    requires read { AreRead net.now flow.now labels.now.far labels.now.hops }
-    requires incidence { AreIncidences net.now incidence.now }
-    requires dead { AreDead net.now flow.now (at_vertex labels.now.far) (count_at labels.now.hops) marks.now }
-    requires vertex { from < vertex_count net.now }
+    requires read { AreRead arcs.now flow.now labels.now.far labels.now.hops }
+    requires dead { AreDead arcs.now flow.now (at_vertex labels.now.far) (count_at labels.now.hops) marks.now }
+    requires vertex { from < vertex_count arcs.now }
     requires fresh { mark_at marks.now from ≡ false }
     requires alone { reached.old.keys.items ≡ from ∷ [] }
-    requires among { length reached.old.marks.items ≡ vertex_count net.now }
+    requires among { length reached.old.marks.items ≡ vertex_count arcs.now }
     ensures each { length reached.new.marks.items ≡ length reached.old.marks.items }
-    ensures reached { OnOk result (AreReached net.now flow.now (at_vertex labels.now.far) (count_at labels.now.hops) marks.now from reached.new.keys.items) }
+    ensures reached { OnOk result (AreReached arcs.now flow.now (at_vertex labels.now.far) (count_at labels.now.hops) marks.now from reached.new.keys.items) }
 {
     let mut next = 0;
     while next < reached.len() {
         let vertex = reached.as_slice()[next];
-        reach_from(flow, labels, marks, vertex, incidence.at(vertex), reached)?;
+        reach_from(flow, labels, marks, vertex, arcs.at(vertex), reached)?;
         next += 1;
     }
     Ok(())
@@ -167,8 +165,7 @@ fn least_end(hops: &[u32], reached: &[u32]) -> u32
 
 // Reads the path from a vertex to the receiver, from what tight arcs reach from that vertex.
 fn read_path(
-    net: &Net,
-    incidence: &Incidence,
+    arcs: &Arcs<'_>,
     flow: &Flow,
     labels: &Labels,
     marks: &[bool],
@@ -176,19 +173,18 @@ fn read_path(
     from: u32,
     path: &mut Vec<Step>,
 ) -> Result<(), NoMemory>
-    requires read { AreRead net.now flow.now labels.now.far labels.now.hops }
-    requires incidence { AreIncidences net.now incidence.now }
-    requires kept { AreKept net.now flow.now (at_vertex labels.now.far) (count_at labels.now.hops) marks.now }
-    requires vertex { from < vertex_count net.now }
+    requires read { AreRead arcs.now flow.now labels.now.far labels.now.hops }
+    requires kept { AreKept arcs.now flow.now (at_vertex labels.now.far) (count_at labels.now.hops) marks.now }
+    requires vertex { from < vertex_count arcs.now }
     requires fresh { mark_at marks.now from ≡ false }
-    requires reached { AreReached net.now flow.now (at_vertex labels.now.far) (count_at labels.now.hops) marks.now from reached.now.keys.items }
+    requires reached { AreReached arcs.now flow.now (at_vertex labels.now.far) (count_at labels.now.hops) marks.now from reached.now.keys.items }
     requires empty { path.old.items ≡ [] }
-    ensures { OnOk result (map way_of path.new.items ≡ path_of net.now flow.now (Some from)) }
+    ensures { OnOk result (map way_of path.new.items ≡ path_of arcs.now flow.now (Some from)) }
 {
     let mut vertex = least_end(labels.hops.as_slice(), reached.as_slice());
     let mut left = *labels.hops.get(from as usize);
     while left > 0 {
-        let Some(step) = least_into(flow, labels, reached, vertex, incidence.at(vertex)) else {
+        let Some(step) = least_into(flow, labels, reached, vertex, arcs.at(vertex)) else {
             unreachable!()
         };
         path.push(step)?;
@@ -222,30 +218,27 @@ impl PathRoom {
 
 /// Finds the path of a round: from the sender, which isn't marked, to the receiver.
 pub(crate) fn find_path(
-    net: &Net,
-    incidence: &Incidence,
+    arcs: &Arcs<'_>,
     flow: &Flow,
     labels: &Labels,
     marks: &[bool],
     from: u32,
     room: &mut PathRoom,
 ) -> Result<(), NoMemory>
-    requires read { AreRead net.now flow.now labels.now.far labels.now.hops }
-    requires incidence { AreIncidences net.now incidence.now }
-    requires kept { AreKept net.now flow.now (at_vertex labels.now.far) (count_at labels.now.hops) marks.now }
-    requires vertex { from < vertex_count net.now }
+    requires read { AreRead arcs.now flow.now labels.now.far labels.now.hops }
+    requires kept { AreKept arcs.now flow.now (at_vertex labels.now.far) (count_at labels.now.hops) marks.now }
+    requires vertex { from < vertex_count arcs.now }
     requires fresh { mark_at marks.now from ≡ false }
-    requires room { length room.old.reached.marks.items ≡ vertex_count net.now }
-    ensures path { OnOk result (map way_of room.new.path.items ≡ path_of net.now flow.now (Some from)) }
-    ensures room { length room.new.reached.marks.items ≡ vertex_count net.now }
+    requires room { length room.old.reached.marks.items ≡ vertex_count arcs.now }
+    ensures path { OnOk result (map way_of room.new.path.items ≡ path_of arcs.now flow.now (Some from)) }
+    ensures room { length room.new.reached.marks.items ≡ vertex_count arcs.now }
 {
     room.reached.clear();
     room.reached.insert(from)?;
-    reach_all(net, incidence, flow, labels, marks, from, &mut room.reached)?;
+    reach_all(arcs, flow, labels, marks, from, &mut room.reached)?;
     room.path.clear();
     read_path(
-        net,
-        incidence,
+        arcs,
         flow,
         labels,
         marks,

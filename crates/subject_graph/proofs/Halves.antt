@@ -1,5 +1,5 @@
 -- Folds by halves: the bound on the depth doesn't matter, and what is folded is the conjunction of all or their disjunction.
-use Rattle.std.proofs.Common.{◌≡◌, ◌≤◌, ◌++◌, ◌∙◌, ◌&&◌, ◌||◌, ℕ, zero, suc, Bool, true, false, List, [], ◌∷◌, length, take, drop, map, All, get_or, refl, sym, ap, subst, arith, length-take, length-drop}
+use Rattle.std.proofs.Common.{◌≡◌, ◌≤◌, ◌++◌, ◌∙◌, ◌&&◌, ◌||◌, ℕ, zero, suc, Bool, true, false, List, [], ◌∷◌, length, take, drop, map, All, refl, sym, ap, subst, arith, length-take, length-drop}
 use Rattle.std.proofs.lemmas.List.{map-append, take-append-drop}
 use Rattle.std.proofs.lemmas.List.Elements.{All-take, All-drop, All-head, All-tail}
 use Rattle.net_base.specs.declared.graph.Ref.{Ref}
@@ -58,16 +58,6 @@ folded-halves kind graph (x ∷ (y ∷ more)) many =
     folded_within-depth depth (length front) kind graph front (front-below x y more) (omega arith) in
     let two = λ (g : Graph). folded_within-depth depth (length back) kind g back (back-below x y more) (omega arith) in
     λ i. with_two kind (two (one i).graph i).graph (one i).answer (two (one i).graph i).answer
-
--- Folds of none and of one.
-pub folded-none : (kind : Folding) (graph : Graph) (signals : List Ref) → signals ≡ [] → folded kind graph signals ≡ record { graph = graph; answer = unit_of kind }
-folded-none kind graph [] e = refl
-folded-none kind graph (x ∷ signals) e = cc
-
-pub folded-one : (kind : Folding) (graph : Graph) (signals : List Ref) (d : Ref) → length signals ≡ 1 → folded kind graph signals ≡ record { graph = graph; answer = get_or signals 0 d }
-folded-one kind graph [] d e = absurd (omega arith)
-folded-one kind graph (x ∷ []) d e = refl
-folded-one kind graph (x ∷ (y ∷ more)) d e = absurd (omega arith)
 
 -- A fold of two or more, as calls make it one half after the other: where one is refused the whole has too many nodes,
 module _ (kind : Folding) (graph : Graph) (signals : List Ref) (many : 2 ≤ length signals) where

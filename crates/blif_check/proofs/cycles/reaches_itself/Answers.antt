@@ -1,9 +1,10 @@
 use Rattle.std.proofs.Common.{◌≡◌, ◌||◌, ◌∙◌, ℕ, List, [], nat_eq, sym, ap}
 use Rattle.net_base.specs.Keys.{is_among}
+use Rattle.net_base.proofs.CallerLemmas.{keys-among}
 use Rattle.blif_model.specs.declared.design.Table.{Table}
 use Rattle.blif_model.specs.Order.{driver_of, pins_of}
 use Rattle.indexmap.specs.IndexSet.{insert_all}
-use Rattle.blif_check.proofs.Reached.{keys-among, pins-listed, back-reached, reached-back}
+use Rattle.blif_check.proofs.Reached.{pins-listed, back-reached, reached-back}
 use Rattle.blif_check.proofs.cycles.reaches_itself.Goals as goal
 
 -- What is reached first are the pins of the table that drives the signal.

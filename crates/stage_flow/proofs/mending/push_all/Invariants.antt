@@ -8,4 +8,4 @@ use Rattle.stage_flow.proofs.mending.push_all.Given as goal
 
 abbrev pub invariant-loop-vertex : goal.invariant-loop-vertex
 invariant-loop-vertex l =
-    AreAdded (flat_map (λ vertex. offers_of (standing l.labels.far l.labels.hops) l.stale (ways_near l.net l.flow vertex)) (take l.vertex-index l.vertices)) (waiting l.initial.queue) (waiting l.queue)
+    AreAdded (flat_map (λ vertex. offers_of (standing l.labels.far l.labels.hops) l.stale (ways_near l.arcs l.flow vertex)) (take l.vertex-index l.vertices)) (waiting l.initial.queue) (waiting l.queue)

@@ -21,7 +21,7 @@ use Rattle.stage_flow.proofs.mending.put_right.Goals as goal
 pub loop-offer-init : goal.loop-offer-init
 loop-offer-init c = record {
   halfway =
-      let net = c.args.net.now in
+      let net = c.args.arcs.now in
       let flow = c.args.flow.now in
       let far = c.args.labels.now.far in
       let hops = c.args.labels.now.hops in
@@ -38,7 +38,7 @@ loop-offer-init c = record {
 
 pub push_from-requires : goal.push_from-requires
 push_from-requires c =
-    let net = c.args.net.now in
+    let net = c.args.arcs.now in
     let flow = c.args.flow.now in
     let old_far = at_vertex c.args.labels.now.far in
     let old_hops = count_at c.args.labels.now.hops in
@@ -57,7 +57,7 @@ push_from-requires c =
     c.loop-offer.invariant.halfway c.in-Some.ensures.first new_far new_hops c.accept.ensures.stale (rest ++ made) (IsPermutation-refl (rest ++ made)) in
     let held = halfway-held net flow c.requires.net old_far old_hops c.args.stale.now c.requires.right far hops stale (rest ++ made) c.requires.flow.each next in
     let low : offer.vertex < vertex_count net = (let h = marked-low c.loop-offer.stale offer.vertex c.in-Some.ensures.first.stale in omega (arith, h, c.loop-offer.invariant.halfway.each_mark)) in
-    let offered = row-offered net flow far hops stale c.requires.net held c.args.incidence.now offer.vertex c.at.result.now c.requires.incidence low c.at.ensures in
+    let offered = row-offered net flow far hops stale c.requires.net held offer.vertex c.at.result.now low c.at.ensures in
     subst (λ (xs : List ℤ). All (IsOfferedBy flow xs c.as_slice-in-Some.result.now offer.vertex) c.at.result.now) (sym (c.as_slice.ensures.value ∙ with_items_is c.loop-offer.far far far_sized))
     (subst (λ (xs : List ℕ). All (IsOfferedBy flow far xs offer.vertex) c.at.result.now) (sym (c.as_slice-in-Some.ensures.value ∙ with_items_is c.loop-offer.hops hops hops_sized)) offered)
 
@@ -70,7 +70,7 @@ loop-offer-smaller c =
 pub loop-offer-preserved : goal.loop-offer-preserved
 loop-offer-preserved c = record {
   halfway =
-      let net = c.args.net.now in
+      let net = c.args.arcs.now in
       let flow = c.args.flow.now in
       let old_far = at_vertex c.args.labels.now.far in
       let old_hops = count_at c.args.labels.now.hops in
@@ -87,7 +87,7 @@ loop-offer-preserved c = record {
       let new_hops : hops ≡ set c.loop-offer.hops.items offer.vertex offer.hops = c.accept.ensures.hops ∙ ap (λ (xs : List ℕ). set xs offer.vertex offer.hops) c.as_mut_slice-in-Some.ensures.value in
       let far_read : c.as_slice.result.now ≡ far = c.as_slice.ensures.value ∙ with_items_is c.loop-offer.far far far_sized in
       let hops_read : c.as_slice-in-Some.result.now ≡ hops = c.as_slice-in-Some.ensures.value ∙ with_items_is c.loop-offer.hops hops hops_sized in
-      let ways : ways_by offer.vertex flow c.at.result.now ≡ ways_near net flow offer.vertex = row-ways net flow c.args.incidence.now offer.vertex c.at.result.now c.requires.incidence low c.at.ensures in
+      let ways : ways_by offer.vertex flow c.at.result.now ≡ ways_near net flow offer.vertex = row-ways net flow offer.vertex c.at.result.now c.at.ensures in
       let same : offers_of (standing c.as_slice.result.now c.as_slice-in-Some.result.now) stale (ways_by offer.vertex flow c.at.result.now) ≡ offers_of (standing far hops) stale (ways_near net flow offer.vertex) =
       λ i. offers_of (standing (far_read i) (hops_read i)) stale (ways i) in
       let next =
@@ -101,7 +101,7 @@ loop-offer-preserved c = record {
 
 pub returns-clause-labels : goal.returns-clause-labels
 returns-clause-labels c =
-    let net = c.args.net.now in
+    let net = c.args.arcs.now in
     let flow = c.args.flow.now in
     let far = c.loop-offer.far.items in
     let hops = c.loop-offer.hops.items in
@@ -111,4 +111,4 @@ returns-clause-labels c =
 
 pub returns-clause-none : goal.returns-clause-none
 returns-clause-none c =
-    none-stale c.args.net.now c.args.flow.now c.requires.net (at_vertex c.args.labels.now.far) (count_at c.args.labels.now.hops) c.args.stale.now c.requires.right c.loop-offer.far.items c.loop-offer.hops.items c.loop-offer.stale (waiting c.loop-offer.queue) c.loop-offer.invariant.halfway c.in_default.ensures.first
+    none-stale c.args.arcs.now c.args.flow.now c.requires.net (at_vertex c.args.labels.now.far) (count_at c.args.labels.now.hops) c.args.stale.now c.requires.right c.loop-offer.far.items c.loop-offer.hops.items c.loop-offer.stale (waiting c.loop-offer.queue) c.loop-offer.invariant.halfway c.in_default.ensures.first

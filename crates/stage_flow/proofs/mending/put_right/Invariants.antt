@@ -8,7 +8,7 @@ use Rattle.stage_flow.proofs.mending.put_right.Given as goal
 
 abbrev pub invariant-loop-offer : goal.invariant-loop-offer
 invariant-loop-offer l = record {
-  halfway : IsHalfway l.net l.flow (label (at_vertex l.fn.labels.far) (count_at l.fn.labels.hops)) l.far.items l.hops.items l.stale (waiting l.queue);
+  halfway : IsHalfway l.arcs l.flow (label (at_vertex l.fn.labels.far) (count_at l.fn.labels.hops)) l.far.items l.hops.items l.stale (waiting l.queue);
   ahead : AreAhead l.stale l.vertices l.seen;
 }
 

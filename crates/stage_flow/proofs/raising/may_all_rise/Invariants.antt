@@ -4,4 +4,4 @@ use Rattle.stage_flow.specs.Raising.{MayRise}
 use Rattle.stage_flow.proofs.raising.may_all_rise.Given as goal
 
 abbrev pub invariant-loop-vertex : goal.invariant-loop-vertex
-invariant-loop-vertex l = All (MayRise l.net l.flow (at_vertex l.labels.far) (count_at l.labels.hops) l.marks l.heights l.floor) (take l.vertex-index l.reached)
+invariant-loop-vertex l = All (MayRise l.arcs l.flow (at_vertex l.labels.far) (count_at l.labels.hops) l.marks l.heights l.floor) (take l.vertex-index l.reached)

@@ -8,14 +8,14 @@ use Rattle.stage_flow.proofs.RaisedLabels.{reads, raised-counts, raised-kept, ra
 use Rattle.stage_flow.proofs.raising.raise.Goals as goal
 
 pub search-requires-clause-read : goal.search-requires-clause-read
-search-requires-clause-read c = reads c.args.net.now c.args.flow.now c.args.labels.far c.args.labels.hops c.requires.net c.requires.units c.requires.each.0 c.requires.each.1
+search-requires-clause-read c = reads c.args.arcs.now c.args.flow.now c.args.labels.far c.args.labels.hops c.requires.net c.requires.units c.requires.each.0 c.requires.each.1
 
 pub tested_floor-floor-requires-clause-read : goal.tested_floor-floor-requires-clause-read
-tested_floor-floor-requires-clause-read c = reads c.args.net.now c.args.flow.now c.args.labels.far c.args.labels.hops c.requires.net c.requires.units c.requires.each.0 c.requires.each.1
+tested_floor-floor-requires-clause-read c = reads c.args.arcs.now c.args.flow.now c.args.labels.far c.args.labels.hops c.requires.net c.requires.units c.requires.each.0 c.requires.each.1
 
 pub raise_all-requires-clause-few : goal.raise_all-requires-clause-few
 raise_all-requires-clause-few c =
-    let net = c.args.net.now in
+    let net = c.args.arcs.now in
     let flow = c.args.flow.now in
     let far = at_vertex c.args.labels.far in
     let hops = count_at c.args.labels.hops in
@@ -30,7 +30,7 @@ raise_all-requires-clause-few c =
 
 pub returns-clause-kept : goal.returns-clause-kept
 returns-clause-kept c =
-    let net = c.args.net.now in
+    let net = c.args.arcs.now in
     let flow = c.args.flow.now in
     let far = at_vertex c.args.labels.far in
     let hops = count_at c.args.labels.hops in

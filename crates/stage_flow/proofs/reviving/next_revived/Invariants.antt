@@ -6,8 +6,8 @@ use Rattle.stage_flow.proofs.reviving.next_revived.Given as goal
 
 abbrev pub invariant-loop-vertex : goal.invariant-loop-vertex
 invariant-loop-vertex l = record {
-  low : All (λ vertex. vertex < vertex_count l.net) l.pending.items;
-  dead : AreDeadBut l.net l.flow (at_vertex l.labels.far) (count_at l.labels.hops) l.marks l.pending.items;
+  low : All (λ vertex. vertex < vertex_count l.arcs) l.pending.items;
+  dead : AreDeadBut l.arcs l.flow (at_vertex l.labels.far) (count_at l.labels.hops) l.marks l.pending.items;
 }
 
 abbrev pub decreases-loop-vertex : goal.decreases-loop-vertex

@@ -10,7 +10,7 @@ use Rattle.stage_flow.proofs.RevivedVertices.{revived-right, revived-dead, reviv
 use Rattle.stage_flow.proofs.reviving.revive.Goals as goal
 
 pub push_tails-requires : goal.push_tails-requires
-push_tails-requires c = record { read = row-read c.args.net.now c.args.flow.now c.args.labels.now.far c.args.labels.now.hops c.args.incidence.now c.in-Some.vertex c.at.result.now c.requires.read c.requires.incidence c.in-Some.ensures.found.0 c.at.ensures }
+push_tails-requires c = record { read = row-read c.args.arcs.now c.args.flow.now c.args.labels.now.far c.args.labels.now.hops c.in-Some.vertex c.at.result.now c.requires.read c.in-Some.ensures.found.0 c.at.ensures }
 
 pub loop-vertex-smaller : goal.loop-vertex-smaller
 loop-vertex-smaller c =
@@ -19,7 +19,7 @@ loop-vertex-smaller c =
 
 pub loop-vertex-preserved : goal.loop-vertex-preserved
 loop-vertex-preserved c =
-    let net = c.args.net.now in
+    let net = c.args.arcs.now in
     let flow = c.args.flow.now in
     let far = at_vertex c.args.labels.now.far in
     let hops = count_at c.args.labels.now.hops in
@@ -30,7 +30,7 @@ loop-vertex-preserved c =
     let each : length marks ≡ length c.args.marks.now = c.loop-vertex.invariant.each in
     let inside : found < length marks = omega (arith, low, each, c.requires.marks) in
     let tails = c.in_ok-push_tails.ensures
-    ∙ ap (λ ways. after ++ tails_of far hops found ways) (row-ways c.args.net.now c.args.flow.now c.args.incidence.now found c.at.result.now c.requires.incidence low c.at.ensures) in
+    ∙ ap (λ ways. after ++ tails_of far hops found ways) (row-ways c.args.arcs.now c.args.flow.now found c.at.result.now c.at.ensures) in
     record {
       each = length-set marks found false ∙ each;
       right = revived-right net flow far hops marks found inside c.in-Some.ensures.found.2 c.loop-vertex.invariant.right;

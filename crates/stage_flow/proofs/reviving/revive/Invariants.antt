@@ -9,9 +9,9 @@ use Rattle.stage_flow.proofs.reviving.revive.Given as goal
 abbrev pub invariant-loop-vertex : goal.invariant-loop-vertex
 invariant-loop-vertex l = record {
   each : length l.marks ≡ length l.initial.marks;
-  right : AreRightOutside l.net l.flow (at_vertex l.labels.far) (count_at l.labels.hops) l.marks;
-  dead : AreDeadBut l.net l.flow (at_vertex l.labels.far) (count_at l.labels.hops) l.marks l.pending.items;
-  low : All (λ vertex. vertex < vertex_count l.net) l.pending.items;
+  right : AreRightOutside l.arcs l.flow (at_vertex l.labels.far) (count_at l.labels.hops) l.marks;
+  dead : AreDeadBut l.arcs l.flow (at_vertex l.labels.far) (count_at l.labels.hops) l.marks l.pending.items;
+  low : All (λ vertex. vertex < vertex_count l.arcs) l.pending.items;
   fewer : NoneIsMarkedAnew l.initial.marks l.marks;
 }
 

@@ -12,19 +12,19 @@ use Rattle.stage_flow.proofs.sending.send.Goals as goal
 
 pub find_path-requires-clause-read : goal.find_path-requires-clause-read
 find_path-requires-clause-read c = record {
-  few = vertices-few c.args.net.now c.requires.net;
-  ends = ends-among c.args.net.now c.requires.net;
+  few = vertices-few c.args.arcs.now c.requires.net;
+  ends = ends-among c.args.arcs.now c.requires.net;
   units = c.requires.units.each;
   each_far = c.requires.each.0;
   each_hops = c.requires.each.1;
 }
 
 pub find_path-requires-clause-vertex : goal.find_path-requires-clause-vertex
-find_path-requires-clause-vertex c = sender-low c.args.net.now c.args.flow.now c.args.from c.requires.sender
+find_path-requires-clause-vertex c = sender-low c.args.arcs.now c.args.flow.now c.args.from c.requires.sender
 
 pub send_along-requires : goal.send_along-requires
 send_along-requires c =
-    let net = c.args.net.now in
+    let net = c.args.arcs.now in
     let flow = c.args.flow.now in
     let far = at_vertex c.args.labels.now.far in
     let hops = count_at c.args.labels.now.hops in
@@ -42,7 +42,7 @@ whole n xs ys long = take-append-le n xs (drop (length xs) ys) (omega (arith, lo
 
 pub returns-clause-ok : goal.returns-clause-ok
 returns-clause-ok c =
-    let net = c.args.net.now in
+    let net = c.args.arcs.now in
     let flow = c.args.flow.now in
     let path = ap (map way_of) c.as_slice.ensures.value ∙ c.in_ok-find_path.ensures.path in
     let units = c.as_mut_slice.ensures.value ∙ c.into_vec-units.ensures ∙ c.replace-pins.ensures.value in

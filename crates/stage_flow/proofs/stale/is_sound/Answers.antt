@@ -6,20 +6,20 @@ use Rattle.stage_flow.proofs.StaleVertices.{near-sound, near-none}
 use Rattle.stage_flow.proofs.stale.is_sound.Goals as goal
 
 pub leads_away_from-requires : goal.leads_away_from-requires
-leads_away_from-requires c = record { read = row-read c.args.net.now c.args.flow.now c.args.labels.now.far c.args.labels.now.hops c.args.incidence.now c.args.vertex c.at.result.now c.requires.read c.requires.incidence c.requires.vertex c.at.ensures }
+leads_away_from-requires c = record { read = row-read c.args.arcs.now c.args.flow.now c.args.labels.now.far c.args.labels.now.hops c.args.vertex c.at.result.now c.requires.read c.requires.vertex c.at.ensures }
 
 pub returns-then-waits-clause-sound : goal.returns-then-waits-clause-sound
 returns-then-waits-clause-sound c = λ yes. inl (c.requires.waits c.args.vertex c.requires.vertex c.requires.unmarked ∙ sym c.waits.ensures ∙ c.if-waits.true)
 
 pub returns-clause-sound : goal.returns-clause-sound
 returns-clause-sound c = λ yes.
-    near-sound c.args.net.now c.args.flow.now (at_vertex c.args.labels.now.far) (count_at c.args.labels.now.hops) c.args.marks.now c.args.vertex (ways_by c.args.vertex c.args.flow.now c.at.result.now)
-    (row-ways c.args.net.now c.args.flow.now c.args.incidence.now c.args.vertex c.at.result.now c.requires.incidence c.requires.vertex c.at.ensures) (c.leads_away_from.ensures.away yes)
+    near-sound c.args.arcs.now c.args.flow.now (at_vertex c.args.labels.now.far) (count_at c.args.labels.now.hops) c.args.marks.now c.args.vertex (ways_by c.args.vertex c.args.flow.now c.at.result.now)
+    (row-ways c.args.arcs.now c.args.flow.now c.args.vertex c.at.result.now c.at.ensures) (c.leads_away_from.ensures.away yes)
 
 pub returns-clause-wants : goal.returns-clause-wants
 returns-clause-wants c = λ wants. absurd (true≢false (sym wants ∙ c.requires.waits c.args.vertex c.requires.vertex c.requires.unmarked ∙ sym c.waits.ensures ∙ c.if-waits.false))
 
 pub returns-clause-none : goal.returns-clause-none
 returns-clause-none c = λ no.
-    near-none c.args.net.now c.args.flow.now (at_vertex c.args.labels.now.far) (count_at c.args.labels.now.hops) c.args.marks.now c.args.vertex (ways_by c.args.vertex c.args.flow.now c.at.result.now)
-    (row-ways c.args.net.now c.args.flow.now c.args.incidence.now c.args.vertex c.at.result.now c.requires.incidence c.requires.vertex c.at.ensures) (c.leads_away_from.ensures.none no)
+    near-none c.args.arcs.now c.args.flow.now (at_vertex c.args.labels.now.far) (count_at c.args.labels.now.hops) c.args.marks.now c.args.vertex (ways_by c.args.vertex c.args.flow.now c.at.result.now)
+    (row-ways c.args.arcs.now c.args.flow.now c.args.vertex c.at.result.now c.at.ensures) (c.leads_away_from.ensures.none no)

@@ -9,12 +9,12 @@ use Rattle.stage_flow.proofs.stale.next_stale.Goals as goal
 
 pub returns-then-is_newly_stale-clause-looked : goal.returns-then-is_newly_stale-clause-looked
 returns-then-is_newly_stale-clause-looked c =
-    looked-last {Rest = λ v. (mark_at c.args.marks.now v ≡ true) ⊎ IsSound c.args.net.now c.args.flow.now (at_vertex c.args.labels.now.far) (count_at c.args.labels.now.hops) c.args.marks.now v}
+    looked-last {Rest = λ v. (mark_at c.args.marks.now v ≡ true) ⊎ IsSound c.args.arcs.now c.args.flow.now (at_vertex c.args.labels.now.far) (count_at c.args.labels.now.hops) c.args.marks.now v}
     c.args.pending.now.items c.loop-vertex.pending.items c.pop.new.self.items c.in-Some.vertex c.in-Some.ensures.items c.loop-vertex.invariant.looked
 
 pub loop-vertex-preserved : goal.loop-vertex-preserved
 loop-vertex-preserved c = record {
-  low = (All-pop (λ v. v < vertex_count c.args.net.now) c.loop-vertex.pending.items c.pop.new.self.items (Some c.in-Some.vertex) c.in-Some.ensures.items c.loop-vertex.invariant.low).0;
-  looked = looked-on {Rest = λ v. (mark_at c.args.marks.now v ≡ true) ⊎ IsSound c.args.net.now c.args.flow.now (at_vertex c.args.labels.now.far) (count_at c.args.labels.now.hops) c.args.marks.now v}
+  low = (All-pop (λ v. v < vertex_count c.args.arcs.now) c.loop-vertex.pending.items c.pop.new.self.items (Some c.in-Some.vertex) c.in-Some.ensures.items c.loop-vertex.invariant.low).0;
+  looked = looked-on {Rest = λ v. (mark_at c.args.marks.now v ≡ true) ⊎ IsSound c.args.arcs.now c.args.flow.now (at_vertex c.args.labels.now.far) (count_at c.args.labels.now.hops) c.args.marks.now v}
       c.args.pending.now.items c.loop-vertex.pending.items c.pop.new.self.items c.in-Some.vertex c.in-Some.ensures.items (c.if-is_newly_stale.ensures.other refl) c.loop-vertex.invariant.looked;
 }

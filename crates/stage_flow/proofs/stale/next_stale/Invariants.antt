@@ -7,8 +7,8 @@ use Rattle.stage_flow.proofs.stale.next_stale.Given as goal
 
 abbrev pub invariant-loop-vertex : goal.invariant-loop-vertex
 invariant-loop-vertex l = record {
-  low : All (λ vertex. vertex < vertex_count l.net) l.pending.items;
-  looked : (vertex : ℕ) → Contains l.initial.pending.items vertex → Contains l.pending.items vertex ⊎ ((mark_at l.marks vertex ≡ true) ⊎ IsSound l.net l.flow (at_vertex l.labels.far) (count_at l.labels.hops) l.marks vertex);
+  low : All (λ vertex. vertex < vertex_count l.arcs) l.pending.items;
+  looked : (vertex : ℕ) → Contains l.initial.pending.items vertex → Contains l.pending.items vertex ⊎ ((mark_at l.marks vertex ≡ true) ⊎ IsSound l.arcs l.flow (at_vertex l.labels.far) (count_at l.labels.hops) l.marks vertex);
 }
 
 abbrev pub decreases-loop-vertex : goal.decreases-loop-vertex

@@ -8,11 +8,11 @@ use Rattle.stage_flow.proofs.StaleVertices.{unmarked-before, length-marked, spre
 use Rattle.stage_flow.proofs.stale.spread.Goals as goal
 
 pub push_tails-requires : goal.push_tails-requires
-push_tails-requires c = record { read = row-read c.args.net.now c.args.flow.now c.args.labels.now.far c.args.labels.now.hops c.args.incidence.now c.in-Some.vertex c.at.result.now c.requires.read c.requires.incidence c.in-Some.ensures.found.0 c.at.ensures }
+push_tails-requires c = record { read = row-read c.args.arcs.now c.args.flow.now c.args.labels.now.far c.args.labels.now.hops c.in-Some.vertex c.at.result.now c.requires.read c.in-Some.ensures.found.0 c.at.ensures }
 
 pub loop-vertex-preserved : goal.loop-vertex-preserved
 loop-vertex-preserved c =
-    let net = c.args.net.now in
+    let net = c.args.arcs.now in
     let flow = c.args.flow.now in
     let far = at_vertex c.args.labels.now.far in
     let hops = count_at c.args.labels.now.hops in
@@ -20,7 +20,7 @@ loop-vertex-preserved c =
     let after = c.next_stale.new.pending.items in
     let low = c.in-Some.ensures.found.0 in
     let tails = c.in_ok-push_tails.ensures
-    ∙ ap (λ ways. after ++ tails_of far hops found ways) (row-ways c.args.net.now c.args.flow.now c.args.incidence.now found c.at.result.now c.requires.incidence low c.at.ensures) in
+    ∙ ap (λ ways. after ++ tails_of far hops found ways) (row-ways c.args.arcs.now c.args.flow.now found c.at.result.now c.at.ensures) in
     let each : length c.loop-vertex.marks ≡ length c.args.marks.now = c.loop-vertex.invariant.each in
     record {
       each = length-marked c.loop-vertex.marks found ∙ each;
@@ -33,5 +33,5 @@ loop-vertex-preserved c =
 
 pub returns-clause-spread : goal.returns-clause-spread
 returns-clause-spread c =
-    spread-done c.args.net.now c.args.flow.now (at_vertex c.args.labels.now.far) (count_at c.args.labels.now.hops) c.loop-vertex.marks c.loop-vertex.vertices.items c.loop-vertex.pending.items c.next_stale.new.pending.items c.next_stale.result
+    spread-done c.args.arcs.now c.args.flow.now (at_vertex c.args.labels.now.far) (count_at c.args.labels.now.hops) c.loop-vertex.marks c.loop-vertex.vertices.items c.loop-vertex.pending.items c.next_stale.new.pending.items c.next_stale.result
     (c.next_stale.ensures.none c.in_default.is) c.in_default.is c.next_stale.ensures.looked c.loop-vertex.invariant.spread

@@ -7,8 +7,8 @@ use Rattle.stage_flow.proofs.stale.spread.Given as goal
 abbrev pub invariant-loop-vertex : goal.invariant-loop-vertex
 invariant-loop-vertex l = record {
   each : length l.marks ≡ length l.initial.marks;
-  waits : SayWhoWaits l.net l.flow (count_at l.labels.hops) l.marks l.served;
-  spread : AreSpread l.net l.flow (at_vertex l.labels.far) (count_at l.labels.hops) l.marks l.vertices.items l.pending.items;
+  waits : SayWhoWaits l.arcs l.flow (count_at l.labels.hops) l.marks l.served;
+  spread : AreSpread l.arcs l.flow (at_vertex l.labels.far) (count_at l.labels.hops) l.marks l.vertices.items l.pending.items;
 }
 
 abbrev pub decreases-loop-vertex : goal.decreases-loop-vertex

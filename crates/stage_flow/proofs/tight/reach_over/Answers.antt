@@ -1,5 +1,5 @@
 use Rattle.std.proofs.Common.{◌≡◌, ◌∙◌, true, false, nat_eq, ap, sym, subst, true≢false}
-use Rattle.indexmap.specs.IndexSet.{insert_all}
+use Rattle.net_base.specs.Keys.{with_keys}
 use Rattle.stage_flow.specs.LawsOfWalks.{IsTight}
 use Rattle.stage_flow.specs.Given.{at_vertex, count_at}
 use Rattle.stage_flow.specs.Passes.{mark_at}
@@ -20,4 +20,4 @@ returns-else-not-is_marked-clause-keys c =
       | else-not-is_marked-via-then-not-is_marked+else-is_tight w ↦ true≢false (sym (w.is_tight.ensures.1 (subst (IsTight far hops) (sym c.step_out-step.ensures) tight)) ∙ w.if-is_tight.false)
       | else-not-is_marked-via-else-not-is_marked w ↦ true≢false (sym w.if-not-is_marked.false ∙ c.is_marked.ensures ∙ ap (λ step. mark_at c.args.marks.now step.head) c.step_out-step.ensures ∙ free)
     ] in
-    sym (ap (insert_all nat_eq c.args.reached.now.keys.items) (heads-none c.args.flow.now far hops c.args.marks.now c.args.vertex c.args.near c.requires.read.apart never))
+    sym (ap (with_keys nat_eq c.args.reached.now.keys.items) (heads-none c.args.flow.now far hops c.args.marks.now c.args.vertex c.args.near c.requires.read.apart never))

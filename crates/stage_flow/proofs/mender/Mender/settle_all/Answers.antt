@@ -20,8 +20,8 @@ after c =
 
 pub returns-clause-kept : goal.returns-clause-kept
 returns-clause-kept c =
-    subst (AreKept c.args.net.now c.args.flow.now (at_vertex c.in_ok-labels.labels.far) (count_at c.in_ok-labels.labels.hops)) (sym (after c))
-    (clear-kept c.args.net.now c.args.flow.now (at_vertex c.in_ok-labels.labels.far) (count_at c.in_ok-labels.labels.hops) c.settle.new.stale c.requires.net c.in_ok-labels.ensures.labels c.in_ok-labels.ensures.none)
+    subst (AreKept c.args.arcs.now c.args.flow.now (at_vertex c.in_ok-labels.labels.far) (count_at c.in_ok-labels.labels.hops)) (sym (after c))
+    (clear-kept c.args.arcs.now c.args.flow.now (at_vertex c.in_ok-labels.labels.far) (count_at c.in_ok-labels.labels.hops) c.settle.new.stale c.requires.net c.in_ok-labels.ensures.labels c.in_ok-labels.ensures.none)
 
 pub returns-clause-none : goal.returns-clause-none
 returns-clause-none c = λ vertex. ap (λ marks. mark_at marks vertex) (after c) ∙ c.in_ok-labels.ensures.none vertex
@@ -30,7 +30,7 @@ pub returns-clause-order : goal.returns-clause-order
 returns-clause-order c = record {
   each = ap length (after c) ∙ c.settle.ensures.length ∙ ap length c.as_mut_slice.ensures.value ∙ c.requires.order.each;
   marked = record {
-    low = subst (All (λ vertex. vertex < vertex_count c.args.net.now)) (sym c.clear.ensures.items) (All-nil (λ vertex. vertex < vertex_count c.args.net.now));
+    low = subst (All (λ vertex. vertex < vertex_count c.args.arcs.now)) (sym c.clear.ensures.items) (All-nil (λ vertex. vertex < vertex_count c.args.arcs.now));
     all = λ vertex marked. absurd (true≢false (sym marked ∙ ap (λ marks. mark_at marks vertex) (after c) ∙ c.in_ok-labels.ensures.none vertex));
   };
   rest = c.requires.order.rest;

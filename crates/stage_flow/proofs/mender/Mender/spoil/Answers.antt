@@ -1,4 +1,5 @@
 use Rattle.std.proofs.Common.{◌≡◌, ◌++◌, ◌∙◌, ◌∷◌, [], List, Bool, map, ap, sym, subst}
+use Rattle.flow_net.specs.declared.net.Net.{Net}
 use Rattle.stage_flow.specs.Given.{at_vertex, count_at}
 use Rattle.stage_flow.specs.Sending.{way_of}
 use Rattle.stage_flow.specs.Mending.{AreMarked}
@@ -9,8 +10,8 @@ use Rattle.stage_flow.proofs.mender.Mender.spoil.Goals as goal
 
 pub spread-requires-clause-read : goal.spread-requires-clause-read
 spread-requires-clause-read c = record {
-  few = vertices-few c.args.net.now c.requires.net;
-  ends = ends-among c.args.net.now c.requires.net;
+  few = vertices-few c.args.arcs.now c.requires.net;
+  ends = ends-among c.args.arcs.now c.requires.net;
   units = c.requires.units;
   each_far = c.requires.each.0;
   each_hops = c.requires.each.1;
@@ -18,7 +19,7 @@ spread-requires-clause-read c = record {
 
 pub spread-requires-clause-spread : goal.spread-requires-clause-spread
 spread-requires-clause-spread c =
-    let net = c.args.net.now in
+    let net = c.args.arcs.now in
     let flow = c.args.flow.now in
     let far = at_vertex c.args.labels.now.far in
     let hops = count_at c.args.labels.now.hops in
@@ -30,4 +31,5 @@ spread-requires-clause-spread c =
     ∙ ap (λ before. (before ++ tails_on path) ++ end_of c.args.from path ∷ []) c.clear.ensures.items in
     spread-start net flow far hops c.args.from path c.as_mut_slice.result.now c.list.new.self.vertices.items c.push.new.self.items
     (subst (λ (m : List Bool). AreLeftByRound net flow far hops m c.args.from path) (sym marks) c.requires.left)
-    (subst (λ (m : List Bool). AreMarked net m c.list.new.self.vertices.items) (sym c.as_mut_slice.ensures.value) c.in_ok-list.ensures.order.marked) pending
+    (subst (λ (m : List Bool). AreMarked net m c.list.new.self.vertices.items) (sym c.as_mut_slice.ensures.value)
+    (subst (λ (n : Net). AreMarked n c.list.new.self.marks.items c.list.new.self.vertices.items) c.net.ensures c.in_ok-list.ensures.order.marked)) pending

@@ -1,9 +1,13 @@
-use Rattle.std.proofs.Common.{◌≡◌, ◌-ℤ◌, ◌<◌, ◌∙◌, ℤ, pos, [], length, get_or, map, Some, refl, sym, ap, subst, arith}
+use Rattle.std.proofs.Common.{◌≡◌, ◌-ℤ◌, ◌<◌, ◌∙◌, ℕ, ℤ, pos, List, [], length, get_or, map, Some, refl, sym, ap, subst, arith}
 use Rattle.std.proofs.lemmas.Int.{ints}
 use Rattle.std.proofs.lemmas.List.{get_or_default}
+use Rattle.flow_net.specs.declared.net.Net.{Net}
 use Rattle.flow_net.specs.declared.net.Flow.{Flow}
-use Rattle.stage_flow.specs.Rounds.{after_round}
-use Rattle.stage_flow.specs.Given.{ArePotentials, at_vertex, count_at}
+use Rattle.stage_flow.specs.Residual.{vertex_count}
+use Rattle.stage_flow.specs.Rounds.{sender, after_round}
+use Rattle.stage_flow.specs.Given.{IsNetwork, ArePotentials, at_vertex, count_at}
+use Rattle.stage_flow.specs.LawsOfWalks.{AreLabels}
+use Rattle.stage_flow.specs.LawsOfSending.{IsPartFlow, SomeMirrorWants}
 use Rattle.stage_flow.specs.UnderWay.{sender_in}
 use Rattle.stage_flow.proofs.FreshLabels.{clear-kept}
 use Rattle.stage_flow.proofs.Labels.{labels-for}
@@ -13,16 +17,20 @@ use Rattle.stage_flow.proofs.RoundsSent.{flow-sent, flow-sender, flow-wanted}
 use Rattle.stage_flow.proofs.ProgressPotentials.{far-within, labels-negated}
 use Rattle.stage_flow.proofs.progress.Progress.round.Goals as goal
 
+-- labels on the network that the search read
+by_net : (read net : Net) (flow : Flow) (far : List ℤ) (hops : List ℕ) → read ≡ net → AreLabels read flow (at_vertex far) (count_at hops) → AreLabels net flow (at_vertex far) (count_at hops)
+by_net read net flow far hops is = subst (λ (n : Net). AreLabels n flow (at_vertex far) (count_at hops)) is
+
 pub find_labels-requires-clause-flow : goal.find_labels-requires-clause-flow
 find_labels-requires-clause-flow c =
     let progress = c.args.self.now in
-    (flow-sent c.args.net.now c.requires.net progress.sent progress.flow c.requires.flow c.requires.more).part
+    subst (λ (net : Net). IsPartFlow net progress.flow) (sym c.new-arcs.ensures) (flow-sent c.args.net.now c.requires.net progress.sent progress.flow c.requires.flow c.requires.more).part
 
 pub find_labels-requires-clause-wanted : goal.find_labels-requires-clause-wanted
 find_labels-requires-clause-wanted c =
     let net = c.args.net.now in
     let progress = c.args.self.now in
-    flow-wanted net c.requires.net progress.sent progress.flow c.requires.flow c.requires.more
+    subst (λ (n : Net). SomeMirrorWants n progress.flow) (sym c.new-arcs.ensures) (flow-wanted net c.requires.net progress.sent progress.flow c.requires.flow c.requires.more)
 
 pub negated-requires : goal.negated-requires
 negated-requires c k d within =
@@ -30,7 +38,8 @@ negated-requires c k d within =
     let labels = c.in_ok-labels.labels in
     let same : c.as_slice.result.now ≡ labels.far = c.as_slice.ensures in
     let inside : k < length labels.far = omega (arith, ap length same) in
-    let near = far-within net c.args.self.now.flow (at_vertex labels.far) (count_at labels.hops) c.requires.net c.in_ok-labels.ensures.labels k (omega (arith, c.in_ok-labels.ensures.each.0)) in
+    let each : length labels.far ≡ vertex_count net = c.in_ok-labels.ensures.each.0 ∙ ap vertex_count c.new-arcs.ensures in
+    let near = far-within net c.args.self.now.flow (at_vertex labels.far) (count_at labels.hops) c.requires.net (by_net c.new-arcs.result c.args.net.now c.args.self.now.flow c.in_ok-labels.labels.far c.in_ok-labels.labels.hops c.new-arcs.ensures c.in_ok-labels.ensures.labels) k (omega (arith, inside, each)) in
     let here : get_or c.as_slice.result.now k d ≡ at_vertex labels.far k = ap (λ xs. get_or xs k d) same ∙ get_or_default labels.far k d (pos 0) inside in
     omega (arith, ints, here, near.0)
 
@@ -38,13 +47,14 @@ pub send-requires-clause-sender : goal.send-requires-clause-sender
 send-requires-clause-sender c =
     let net = c.args.net.now in
     let progress = c.args.self.now in
-    flow-sender net c.requires.net progress.sent progress.flow c.requires.flow c.requires.more
+    ap (λ (n : Net). sender n progress.flow) c.new-arcs.ensures
+    ∙ flow-sender net c.requires.net progress.sent progress.flow c.requires.flow c.requires.more
     ∙ ap (λ v. Some v) (sym c.sender-from.ensures)
 
 pub send-requires-clause-units : goal.send-requires-clause-units
 send-requires-clause-units c =
     let progress = c.args.self.now in
-    record { each = (flow-sent c.args.net.now c.requires.net progress.sent progress.flow c.requires.flow c.requires.more).part.each }
+    record { each = (flow-sent c.args.net.now c.requires.net progress.sent progress.flow c.requires.flow c.requires.more).part.each ∙ ap (λ (n : Net). length n.pins) (sym c.new-arcs.ensures) }
 
 pub send-requires-clause-room : goal.send-requires-clause-room
 send-requires-clause-room c k d within =
@@ -62,7 +72,7 @@ returns-clause-potentials c =
     let net = c.args.net.now in
     let progress = c.args.self.now in
     let labels = c.in_ok-labels.labels in
-    let are = c.in_ok-labels.ensures.labels in
+    let are = by_net c.new-arcs.result c.args.net.now c.args.self.now.flow c.in_ok-labels.labels.far c.in_ok-labels.labels.hops c.new-arcs.ensures c.in_ok-labels.ensures.labels in
     let from = sender_in net progress.sent in
     let part = (flow-sent net c.requires.net progress.sent progress.flow c.requires.flow c.requires.more).part in
     let sends = flow-sender net c.requires.net progress.sent progress.flow c.requires.flow c.requires.more in
@@ -70,10 +80,11 @@ returns-clause-potentials c =
     (labels-for net progress.flow (at_vertex labels.far) (count_at labels.hops) are (ways-low net progress.flow (ends-among net c.requires.net)) from (sender-low net progress.flow from sends)) sends in
     let numbers : c.in_ok-potentials.potentials ≡ map (λ (z : ℤ). pos 0 -ℤ z) labels.far =
     c.in_ok-potentials.ensures ∙ ap (map (λ (z : ℤ). pos 0 -ℤ z)) c.as_slice.ensures in
-    let fit = labels-negated net progress.flow labels.far (count_at labels.hops) from round.0 c.requires.net are c.in_ok-labels.ensures.each.0 round.1 in
-    subst (λ (flow : Flow). ArePotentials net flow c.in_ok-potentials.potentials) (sym c.in_ok-send.ensures.ok)
+    let each : length labels.far ≡ vertex_count net = c.in_ok-labels.ensures.each.0 ∙ ap vertex_count c.new-arcs.ensures in
+    let fit = labels-negated net progress.flow labels.far (count_at labels.hops) from round.0 c.requires.net are each round.1 in
+    subst (λ (flow : Flow). ArePotentials net flow c.in_ok-potentials.potentials) (sym (c.in_ok-send.ensures.ok ∙ ap (λ (n : Net). after_round n progress.flow) c.new-arcs.ensures))
     (subst (ArePotentials net (after_round net progress.flow)) (sym numbers) fit)
 
 pub send-requires-clause-kept : goal.send-requires-clause-kept
 send-requires-clause-kept c =
-    clear-kept c.args.net.now c.args.self.now.flow (at_vertex c.in_ok-labels.labels.far) (count_at c.in_ok-labels.labels.hops) [] c.requires.net c.in_ok-labels.ensures.labels (λ vertex. refl)
+    clear-kept c.new-arcs.result c.args.self.now.flow (at_vertex c.in_ok-labels.labels.far) (count_at c.in_ok-labels.labels.hops) [] (subst IsNetwork (sym c.new-arcs.ensures) c.requires.net) c.in_ok-labels.ensures.labels (λ vertex. refl)
